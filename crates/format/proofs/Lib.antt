@@ -1,0 +1,14 @@
+pub mod SlotLaws
+pub mod NumberLaws
+pub mod Good
+pub mod WalkLaws
+pub mod RowLaws
+pub mod EndedLaws
+pub mod AreaLaws
+pub mod TagLaws
+pub mod HeaderLaws
+pub mod VariableLaws
+pub mod ExpansionLaws
+pub mod DataLaws
+pub mod LabelLaws
+pub mod FileLaws

@@ -1,0 +1,193 @@
+-- Editions: the numbers that tell their layouts apart, and their tags.
+use Prim.Native.Nat.{ℕ, zero, suc, _+_, _*_, _/_, _%_}
+use mathlib.Core.List.{List, [], _∷_, _++_}
+use mathlib.Core.Bool.{Bool, true, false, cond}
+use Rattle.format.specs.Number.{Order, msf, lsf}
+
+-- what an edition's layout depends on
+pub record Edition : Type 0 where
+  -- its number
+  pub number : ℕ
+  -- whether its parts stand between tags (117 on)
+  pub tagged : Bool
+  -- bytes of N
+  pub nWidth : ℕ
+  -- longest dataset label; bytes of its length in a tagged edition
+  pub labelMax : ℕ
+  pub labelLength : ℕ
+  -- bytes of a variable name, of a label-set name, of the name of a label block
+  pub nameWidth : ℕ
+  -- bytes of a display format
+  pub formatWidth : ℕ
+  -- bytes of a variable label
+  pub varLabelWidth : ℕ
+  -- bytes of v and of o in a strL cell, and of o in a strL record
+  pub vWidth : ℕ
+  pub oWidth : ℕ
+  pub recordWidth : ℕ
+
+-- the editions that are read
+pub data Release : Type 0 where
+  r113 r114 r117 : Release
+
+-- the numbers of each
+abbrev pub edition : Release → Edition
+edition r113 =
+    record { number = 113; tagged = false; nWidth = 4; labelMax = 80; labelLength = 1; nameWidth = 33; formatWidth = 12; varLabelWidth = 81; vWidth = 4; oWidth = 4; recordWidth = 4 }
+edition r114 =
+    record { number = 114; tagged = false; nWidth = 4; labelMax = 80; labelLength = 1; nameWidth = 33; formatWidth = 49; varLabelWidth = 81; vWidth = 4; oWidth = 4; recordWidth = 4 }
+edition r117 =
+    record { number = 117; tagged = true; nWidth = 4; labelMax = 80; labelLength = 1; nameWidth = 33; formatWidth = 49; varLabelWidth = 81; vWidth = 4; oWidth = 4; recordWidth = 4 }
+
+-- ---- what follows from whether an edition is tagged
+
+-- bytes of a type code
+abbrev pub codeWidth : Bool → ℕ
+codeWidth true = 2
+codeWidth false = 1
+
+-- longest fixed-width text
+abbrev pub textMax : Bool → ℕ
+textMax true = 2045
+textMax false = 244
+
+-- bytes of an expansion block's type; a characteristic has none
+abbrev pub kindWidth : Bool → ℕ
+kindWidth true = 0
+kindWidth false = 1
+
+-- how many positions the map has; an untagged edition has no map
+abbrev pub mapCount : Bool → ℕ
+mapCount true = 14
+mapCount false = 0
+
+-- what ends the expansion blocks: type 0 with length 0; nothing ends the characteristics but their closing tag
+abbrev pub blocksEnd : Bool → List ℕ
+blocksEnd true = []
+blocksEnd false = 0 ∷ 0 ∷ 0 ∷ 0 ∷ 0 ∷ []
+
+-- the tag <name>; no bytes in an untagged edition
+abbrev pub opening : Bool → List ℕ → List ℕ
+opening true n = 60 ∷ n ++ 62 ∷ []
+opening false n = []
+
+-- the tag </name>; no bytes in an untagged edition
+abbrev pub closing : Bool → List ℕ → List ℕ
+closing true n = 60 ∷ 47 ∷ n ++ 62 ∷ []
+closing false n = []
+
+-- ---- the names in the tags, in ASCII
+-- stata_dta
+abbrev pub n-stata-dta : List ℕ
+n-stata-dta = 115 ∷ 116 ∷ 97 ∷ 116 ∷ 97 ∷ 95 ∷ 100 ∷ 116 ∷ 97 ∷ []
+
+-- header
+abbrev pub n-header : List ℕ
+n-header = 104 ∷ 101 ∷ 97 ∷ 100 ∷ 101 ∷ 114 ∷ []
+
+-- release
+abbrev pub n-release : List ℕ
+n-release = 114 ∷ 101 ∷ 108 ∷ 101 ∷ 97 ∷ 115 ∷ 101 ∷ []
+
+-- byteorder
+abbrev pub n-byteorder : List ℕ
+n-byteorder = 98 ∷ 121 ∷ 116 ∷ 101 ∷ 111 ∷ 114 ∷ 100 ∷ 101 ∷ 114 ∷ []
+
+-- K
+abbrev pub n-K : List ℕ
+n-K = 75 ∷ []
+
+-- N
+abbrev pub n-N : List ℕ
+n-N = 78 ∷ []
+
+-- label
+abbrev pub n-label : List ℕ
+n-label = 108 ∷ 97 ∷ 98 ∷ 101 ∷ 108 ∷ []
+
+-- timestamp
+abbrev pub n-timestamp : List ℕ
+n-timestamp = 116 ∷ 105 ∷ 109 ∷ 101 ∷ 115 ∷ 116 ∷ 97 ∷ 109 ∷ 112 ∷ []
+
+-- map
+abbrev pub n-map : List ℕ
+n-map = 109 ∷ 97 ∷ 112 ∷ []
+
+-- variable_types
+abbrev pub n-variable-types : List ℕ
+n-variable-types = 118 ∷ 97 ∷ 114 ∷ 105 ∷ 97 ∷ 98 ∷ 108 ∷ 101 ∷ 95 ∷ 116 ∷ 121 ∷ 112 ∷ 101 ∷ 115 ∷ []
+
+-- varnames
+abbrev pub n-varnames : List ℕ
+n-varnames = 118 ∷ 97 ∷ 114 ∷ 110 ∷ 97 ∷ 109 ∷ 101 ∷ 115 ∷ []
+
+-- sortlist
+abbrev pub n-sortlist : List ℕ
+n-sortlist = 115 ∷ 111 ∷ 114 ∷ 116 ∷ 108 ∷ 105 ∷ 115 ∷ 116 ∷ []
+
+-- formats
+abbrev pub n-formats : List ℕ
+n-formats = 102 ∷ 111 ∷ 114 ∷ 109 ∷ 97 ∷ 116 ∷ 115 ∷ []
+
+-- value_label_names
+abbrev pub n-value-label-names : List ℕ
+n-value-label-names = 118 ∷ 97 ∷ 108 ∷ 117 ∷ 101 ∷ 95 ∷ 108 ∷ 97 ∷ 98 ∷ 101 ∷ 108 ∷ 95 ∷ 110 ∷ 97 ∷ 109 ∷ 101 ∷ 115 ∷ []
+
+-- variable_labels
+abbrev pub n-variable-labels : List ℕ
+n-variable-labels = 118 ∷ 97 ∷ 114 ∷ 105 ∷ 97 ∷ 98 ∷ 108 ∷ 101 ∷ 95 ∷ 108 ∷ 97 ∷ 98 ∷ 101 ∷ 108 ∷ 115 ∷ []
+
+-- characteristics
+abbrev pub n-characteristics : List ℕ
+n-characteristics = 99 ∷ 104 ∷ 97 ∷ 114 ∷ 97 ∷ 99 ∷ 116 ∷ 101 ∷ 114 ∷ 105 ∷ 115 ∷ 116 ∷ 105 ∷ 99 ∷ 115 ∷ []
+
+-- ch
+abbrev pub n-ch : List ℕ
+n-ch = 99 ∷ 104 ∷ []
+
+-- data
+abbrev pub n-data : List ℕ
+n-data = 100 ∷ 97 ∷ 116 ∷ 97 ∷ []
+
+-- strls
+abbrev pub n-strls : List ℕ
+n-strls = 115 ∷ 116 ∷ 114 ∷ 108 ∷ 115 ∷ []
+
+-- value_labels
+abbrev pub n-value-labels : List ℕ
+n-value-labels = 118 ∷ 97 ∷ 108 ∷ 117 ∷ 101 ∷ 95 ∷ 108 ∷ 97 ∷ 98 ∷ 101 ∷ 108 ∷ 115 ∷ []
+
+-- lbl
+abbrev pub n-lbl : List ℕ
+n-lbl = 108 ∷ 98 ∷ 108 ∷ []
+
+-- GSO, which starts a strL record
+abbrev pub t-GSO : List ℕ
+t-GSO = 71 ∷ 83 ∷ 79 ∷ []
+
+-- the three decimal digits of an edition's number
+abbrev pub digits : ℕ → List ℕ
+digits n = (48 + n / 100) ∷ (48 + n / 10 % 10) ∷ (48 + n % 10) ∷ []
+
+-- <stata_dta><header><release>NNN</release>
+abbrev pub taggedStart : ℕ → List ℕ
+taggedStart n = opening true n-stata-dta ++ opening true n-header ++ opening true n-release ++ digits n ++ closing true n-release
+
+-- how a file begins, by the edition's number: with those tags, or with the number as a byte
+abbrev pub startBy : Bool → ℕ → List ℕ
+startBy true n = taggedStart n
+startBy false n = n ∷ []
+
+-- how a file of the edition begins
+abbrev pub start : Edition → List ℕ
+start e = startBy (e .tagged) (e .number)
+
+-- the byte order in an untagged edition: 1, most significant byte first; 2, least
+abbrev pub orderMark : Order → ℕ
+orderMark msf = 1
+orderMark lsf = 2
+
+-- the byte order in a tagged edition: MSF, LSF
+abbrev pub orderText : Order → List ℕ
+orderText msf = 77 ∷ 83 ∷ 70 ∷ []
+orderText lsf = 76 ∷ 83 ∷ 70 ∷ []

@@ -1,0 +1,10 @@
+pub mod Slot
+pub mod Number
+pub mod Grammar
+pub mod Edition
+pub mod Header
+pub mod Variables
+pub mod Expansion
+pub mod Data
+pub mod Labels
+pub mod Dta
