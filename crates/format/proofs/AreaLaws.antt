@@ -116,6 +116,49 @@ masked-raw offs a n =
         let y = dead-after offs a x z b (member-live offs a x m) e in
         past-holds a n x (y .0) (y .1) (omega (arith, y .2)) (y .3)
 
+-- a place is live exactly if some text or its zero covers it
+abbrev pub Covers : List ℕ → (ℕ → ℕ) → ℕ → Type 0
+Covers offs a j = (o : ℕ) × (member o offs ≡ true) × (o ≤ j) × ((i : ℕ) → o ≤ i → i < j → a i ≡ 0 → ⊥)
+
+last-too : (a : ℕ → ℕ) (o j : ℕ) → ((x : ℕ) → o ≤ x → x < j → a x ≡ 0 → ⊥) → (a j ≡ 0 → ⊥) → (i : ℕ) → o ≤ i → i < suc j → a i ≡ 0 → ⊥
+last-too a o j w z i b c q = at (eqb i j) refl
+  where
+    at : (t : Bool) → eqb i j ≡ t → ⊥
+    at true e = z (subst (λ (x : ℕ). a x ≡ 0) (eqb-true i j e) q)
+    at false e = w i b (omega (arith, eqb-false i j e)) q
+
+pub live-covers : (offs : List ℕ) (a : ℕ → ℕ) (j : ℕ) → live offs a j ≡ true → Covers offs a j
+live-covers offs a zero h = (zero, h, omega arith, λ i b c. absurd (not-suc-le-zero c))
+live-covers offs a (suc j) h = go (or-cases (member (suc j) offs) (live offs a j && not (eqb (a j) 0)) h) (live-covers offs a j)
+  where
+    go : (member (suc j) offs ≡ true) ⊎ ((live offs a j && not (eqb (a j) 0)) ≡ true) → (live offs a j ≡ true → Covers offs a j) → Covers offs a (suc j)
+    go (inl m) ih = (suc j, m, omega arith, λ i b c. absurd (omega arith))
+    go (inr k) ih =
+        let v = ih (and-left (live offs a j) (not (eqb (a j) 0)) k) in
+        let z = eqb-false (a j) 0 (not-true (eqb (a j) 0) (and-right (live offs a j) (not (eqb (a j) 0)) k)) in
+        (v .0, v .1, omega (arith, v .2), last-too a (v .0) j (v .3) z)
+
+pub covers-live : (offs : List ℕ) (a : ℕ → ℕ) (j : ℕ) → Covers offs a j → live offs a j ≡ true
+covers-live offs a zero v = let e : v .0 ≡ 0 = omega (arith, v .2) in rw e at (v .1)
+covers-live offs a (suc j) v = go (eqb (v .0) (suc j)) refl (covers-live offs a j)
+  where
+    go : (t : Bool) → eqb (v .0) (suc j) ≡ t → (Covers offs a j → live offs a j ≡ true) → live offs a (suc j) ≡ true
+    go true e ih = rw (eqb-true (v .0) (suc j) e) at (ap (λ (t : Bool). t || (live offs a j && not (eqb (a j) 0))) (v .1))
+    go false e ih =
+        let l : v .0 ≤ j = omega (arith, v .2, eqb-false (v .0) (suc j) e) in
+        let k = ih (v .0, v .1, l, λ i b c. v .3 i b (omega arith)) in
+        or-right (member (suc j) offs) (live offs a j && not (eqb (a j) 0)) (rw (k, ne-eqb (a j) 0 (v .3 j l (omega arith))))
+
+-- ---- an area of a file
+
+slot-takes : (t : Bool) (x y : ℕ) → (t ≡ true → y ≡ x) → Takes (cond t (byte x) (spare 0)) y
+slot-takes true x y h = h refl
+slot-takes false x y h = tt
+
+pub slot-taken : (t : Bool) (x y : ℕ) → Takes (cond t (byte x) (spare 0)) y → t ≡ true → y ≡ x
+slot-taken true x y h e = h
+slot-taken false x y h e = absurd (true≢false (sym e))
+
 module _ (offs : List ℕ) (n : ℕ) (f : List ℕ) (p : ℕ) where
   here : ℕ → ℕ
   here i = getD f (p + i) 0
@@ -127,14 +170,6 @@ module _ (offs : List ℕ) (n : ℕ) (f : List ℕ) (p : ℕ) where
   area-live : (j : ℕ) → j < n → live offs (λ i. getD areaRead i 0) j ≡ live offs here j
   unfolding areaRead
   area-live j b = live-same offs here (λ i. getD areaRead i 0) n (λ i c e. getD-tab n (masked offs here) 0 i c ∙ masked-live offs here i e) j (omega arith)
-
-  slot-takes : (t : Bool) (x y : ℕ) → (t ≡ true → y ≡ x) → Takes (cond t (byte x) (spare 0)) y
-  slot-takes true x y h = h refl
-  slot-takes false x y h = tt
-
-  pub slot-taken : (t : Bool) (x y : ℕ) → Takes (cond t (byte x) (spare 0)) y → t ≡ true → y ≡ x
-  slot-taken true x y h e = h
-  slot-taken false x y h e = absurd (true≢false (sym e))
 
   area-fits : p + n ≤ length f → Fits f p (area offs n 12 .slots areaRead)
   unfolding areaRead here

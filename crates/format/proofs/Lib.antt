@@ -12,3 +12,8 @@ pub mod ExpansionLaws
 pub mod DataLaws
 pub mod LabelLaws
 pub mod FileLaws
+pub mod PartLaws
+pub mod HeldLaws
+pub mod HoldsLaws
+pub mod DeadSlots
+pub mod DeadLaws

@@ -27,6 +27,9 @@ fits-right f p (s ∷ A) B h =
     let e : p + suc (length A) ≡ suc p + length A = omega arith in
     rw e (fits-right f (suc p) A B (h .1))
 
+pub fits-after : (f : List ℕ) (p n : ℕ) (A B : List Slot) → length A ≡ n → Fits f p (A ++ B) → Fits f (p + n) B
+fits-after f p n A B e m = rw e at (fits-right f p A B m)
+
 pub fits-append : (f : List ℕ) (p : ℕ) (A B : List Slot) → Fits f p A → Fits f (p + length A) B → Fits f p (A ++ B)
 fits-append f p [] B h k = rw add-zero at k
 fits-append f p (s ∷ A) B h k =

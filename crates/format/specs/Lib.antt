@@ -8,3 +8,4 @@ pub mod Expansion
 pub mod Data
 pub mod Labels
 pub mod Dta
+pub mod Dead
