@@ -17,3 +17,4 @@ pub mod HeldLaws
 pub mod HoldsLaws
 pub mod DeadSlots
 pub mod DeadLaws
+pub mod CutLaws

@@ -7,7 +7,7 @@ use lib.ListN.{length, getD, replicate}
 use lib.Dec.{eqb, leb, ltb}
 use Rattle.format.specs.Slot.{Slot, fill, dead}
 use Rattle.format.specs.Number.{Order, msf, lsf}
-use Rattle.format.specs.Grammar.{Sect, also, unless, ruled, seq, told, done, sizes, sameAt}
+use Rattle.format.specs.Grammar.{Sect, also, unless, ruled, seq, told, done, sizes, eachSize, sameAt}
 use Rattle.format.specs.Edition.{Edition, Release, r113, r114, r117, edition, start, orderMark, orderText, mapCount, opening, closing, n-map, n-value-labels, n-stata-dta}
 use Rattle.format.specs.Header.{Head, header}
 use Rattle.format.specs.Variables.{fileMap, VarType, hasType, types, names, sortList, formats, setNames, varLabels}
@@ -271,17 +271,12 @@ deadIn f i = dead (file (editionOf f) (orderOf f) .slots (contents f)) i
 
 -- ---- beginnings of a file
 
--- the sizes of the label blocks
-abbrev pub blockSizes : Edition → Order → List LabelBlock → List ℕ
-blockSizes e o [] = []
-blockSizes e o (b ∷ l) = block (e .tagged) o (e .nameWidth) .size b ∷ blockSizes e o l
-
 -- the lengths at which a beginning of an accepted file is a file: only the whole in a tagged edition; else where the label blocks
 -- start, which is the data's end, and the end of each label block
 unfoldable pub cuts : List ℕ → List ℕ
 cuts f =
     cond (editionOf f .tagged) (length f ∷ [])
-    (sums (getD (layoutOf f .places) 11 0) (blockSizes (editionOf f) (orderOf f) (datasetOf f .labelBlocks)))
+    (sums (getD (layoutOf f .places) 11 0) (eachSize (block (editionOf f .tagged) (orderOf f) (editionOf f .nameWidth)) (datasetOf f .labelBlocks)))
 
 -- ---- writing
 

@@ -167,7 +167,12 @@ module _ {A : Type 0} (S : Sect A) where
   allSlots [] = []
   allSlots (a ∷ l) = S .slots a ++ allSlots l
 
-  -- their size
+  -- the size of each
+  abbrev pub eachSize : List A → List ℕ
+  eachSize [] = []
+  eachSize (a ∷ l) = S .size a ∷ eachSize l
+
+  -- the size of all
   abbrev pub sizes : List A → ℕ
   sizes [] = 0
   sizes (a ∷ l) = S .size a + sizes l
