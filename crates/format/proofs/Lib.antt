@@ -18,3 +18,6 @@ pub mod HoldsLaws
 pub mod DeadSlots
 pub mod DeadLaws
 pub mod CutLaws
+pub mod StepLaws
+pub mod WriteLaws
+pub mod Theorems
