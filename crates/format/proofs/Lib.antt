@@ -1,3 +1,5 @@
+pub mod Examples
+pub mod Edges
 pub mod SlotLaws
 pub mod NumberLaws
 pub mod Good

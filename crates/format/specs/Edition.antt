@@ -2,6 +2,9 @@
 use Prim.Native.Nat.{ℕ, zero, suc, _+_, _*_, _/_, _%_}
 use mathlib.Core.List.{List, [], _∷_, _++_}
 use mathlib.Core.Bool.{Bool, true, false, cond}
+use Prim.Native.String.{String}
+use Prim.Native.String as Texts
+use Prim.Native.Char.{code}
 use Rattle.format.specs.Number.{Order, msf, lsf}
 
 -- what an edition's layout depends on
@@ -66,104 +69,89 @@ abbrev pub blocksEnd : Bool → List ℕ
 blocksEnd true = []
 blocksEnd false = 0 ∷ 0 ∷ 0 ∷ 0 ∷ 0 ∷ []
 
+-- the bytes of a text in ASCII
+abbrev pub ascii : String → List ℕ
+ascii Texts.[] = []
+ascii (Texts._∷_ c s) = code c ∷ ascii s
+
 -- the tag <name>; no bytes in an untagged edition
 abbrev pub opening : Bool → List ℕ → List ℕ
-opening true n = 60 ∷ n ++ 62 ∷ []
+opening true n = ascii "<" ++ n ++ ascii ">"
 opening false n = []
 
 -- the tag </name>; no bytes in an untagged edition
 abbrev pub closing : Bool → List ℕ → List ℕ
-closing true n = 60 ∷ 47 ∷ n ++ 62 ∷ []
+closing true n = ascii "</" ++ n ++ ascii ">"
 closing false n = []
 
--- ---- the names in the tags, in ASCII
--- stata_dta
+-- ---- the names in the tags
+
 abbrev pub n-stata-dta : List ℕ
-n-stata-dta = 115 ∷ 116 ∷ 97 ∷ 116 ∷ 97 ∷ 95 ∷ 100 ∷ 116 ∷ 97 ∷ []
+n-stata-dta = ascii "stata_dta"
 
--- header
 abbrev pub n-header : List ℕ
-n-header = 104 ∷ 101 ∷ 97 ∷ 100 ∷ 101 ∷ 114 ∷ []
+n-header = ascii "header"
 
--- release
 abbrev pub n-release : List ℕ
-n-release = 114 ∷ 101 ∷ 108 ∷ 101 ∷ 97 ∷ 115 ∷ 101 ∷ []
+n-release = ascii "release"
 
--- byteorder
 abbrev pub n-byteorder : List ℕ
-n-byteorder = 98 ∷ 121 ∷ 116 ∷ 101 ∷ 111 ∷ 114 ∷ 100 ∷ 101 ∷ 114 ∷ []
+n-byteorder = ascii "byteorder"
 
--- K
 abbrev pub n-K : List ℕ
-n-K = 75 ∷ []
+n-K = ascii "K"
 
--- N
 abbrev pub n-N : List ℕ
-n-N = 78 ∷ []
+n-N = ascii "N"
 
--- label
 abbrev pub n-label : List ℕ
-n-label = 108 ∷ 97 ∷ 98 ∷ 101 ∷ 108 ∷ []
+n-label = ascii "label"
 
--- timestamp
 abbrev pub n-timestamp : List ℕ
-n-timestamp = 116 ∷ 105 ∷ 109 ∷ 101 ∷ 115 ∷ 116 ∷ 97 ∷ 109 ∷ 112 ∷ []
+n-timestamp = ascii "timestamp"
 
--- map
 abbrev pub n-map : List ℕ
-n-map = 109 ∷ 97 ∷ 112 ∷ []
+n-map = ascii "map"
 
--- variable_types
 abbrev pub n-variable-types : List ℕ
-n-variable-types = 118 ∷ 97 ∷ 114 ∷ 105 ∷ 97 ∷ 98 ∷ 108 ∷ 101 ∷ 95 ∷ 116 ∷ 121 ∷ 112 ∷ 101 ∷ 115 ∷ []
+n-variable-types = ascii "variable_types"
 
--- varnames
 abbrev pub n-varnames : List ℕ
-n-varnames = 118 ∷ 97 ∷ 114 ∷ 110 ∷ 97 ∷ 109 ∷ 101 ∷ 115 ∷ []
+n-varnames = ascii "varnames"
 
--- sortlist
 abbrev pub n-sortlist : List ℕ
-n-sortlist = 115 ∷ 111 ∷ 114 ∷ 116 ∷ 108 ∷ 105 ∷ 115 ∷ 116 ∷ []
+n-sortlist = ascii "sortlist"
 
--- formats
 abbrev pub n-formats : List ℕ
-n-formats = 102 ∷ 111 ∷ 114 ∷ 109 ∷ 97 ∷ 116 ∷ 115 ∷ []
+n-formats = ascii "formats"
 
--- value_label_names
 abbrev pub n-value-label-names : List ℕ
-n-value-label-names = 118 ∷ 97 ∷ 108 ∷ 117 ∷ 101 ∷ 95 ∷ 108 ∷ 97 ∷ 98 ∷ 101 ∷ 108 ∷ 95 ∷ 110 ∷ 97 ∷ 109 ∷ 101 ∷ 115 ∷ []
+n-value-label-names = ascii "value_label_names"
 
--- variable_labels
 abbrev pub n-variable-labels : List ℕ
-n-variable-labels = 118 ∷ 97 ∷ 114 ∷ 105 ∷ 97 ∷ 98 ∷ 108 ∷ 101 ∷ 95 ∷ 108 ∷ 97 ∷ 98 ∷ 101 ∷ 108 ∷ 115 ∷ []
+n-variable-labels = ascii "variable_labels"
 
--- characteristics
 abbrev pub n-characteristics : List ℕ
-n-characteristics = 99 ∷ 104 ∷ 97 ∷ 114 ∷ 97 ∷ 99 ∷ 116 ∷ 101 ∷ 114 ∷ 105 ∷ 115 ∷ 116 ∷ 105 ∷ 99 ∷ 115 ∷ []
+n-characteristics = ascii "characteristics"
 
--- ch
 abbrev pub n-ch : List ℕ
-n-ch = 99 ∷ 104 ∷ []
+n-ch = ascii "ch"
 
--- data
 abbrev pub n-data : List ℕ
-n-data = 100 ∷ 97 ∷ 116 ∷ 97 ∷ []
+n-data = ascii "data"
 
--- strls
 abbrev pub n-strls : List ℕ
-n-strls = 115 ∷ 116 ∷ 114 ∷ 108 ∷ 115 ∷ []
+n-strls = ascii "strls"
 
--- value_labels
 abbrev pub n-value-labels : List ℕ
-n-value-labels = 118 ∷ 97 ∷ 108 ∷ 117 ∷ 101 ∷ 95 ∷ 108 ∷ 97 ∷ 98 ∷ 101 ∷ 108 ∷ 115 ∷ []
+n-value-labels = ascii "value_labels"
 
--- lbl
 abbrev pub n-lbl : List ℕ
-n-lbl = 108 ∷ 98 ∷ 108 ∷ []
+n-lbl = ascii "lbl"
 
 -- GSO, which starts a strL record
 abbrev pub t-GSO : List ℕ
-t-GSO = 71 ∷ 83 ∷ 79 ∷ []
+t-GSO = ascii "GSO"
 
 -- the three decimal digits of an edition's number
 abbrev pub digits : ℕ → List ℕ
@@ -189,5 +177,5 @@ orderMark lsf = 2
 
 -- the byte order in a tagged edition: MSF, LSF
 abbrev pub orderText : Order → List ℕ
-orderText msf = 77 ∷ 83 ∷ 70 ∷ []
-orderText lsf = 76 ∷ 83 ∷ 70 ∷ []
+orderText msf = ascii "MSF"
+orderText lsf = ascii "LSF"
