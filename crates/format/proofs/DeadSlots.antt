@@ -282,9 +282,13 @@ dead-area offs n a f p i m = record { to = to; from = from }
 
     covered : (j : ℕ) → p + j ≡ i → live offs (λ k. getD f (p + k) 0) j ≡ true → Covered f p offs i
     covered j e h =
-        let v = live-covers offs (λ k. getD f (p + k) 0) j h in
-        (v .0, v .1, omega (arith, v .2), λ z b c q. (let w : p + (z - p) ≡ z = omega arith in
-        v .3 (z - p) (omega arith) (omega arith) (subst (λ (x : ℕ). getD f x 0 ≡ 0) (sym w) q)))
+        let v = live-covers offs (λ k. getD f (p + k) 0) j h in (
+          v .0,
+          v .1,
+          omega (arith, v .2),
+          λ z b c q. (let w : p + (z - p) ≡ z = omega arith in
+              v .3 (z - p) (omega arith) (omega arith) (subst (λ (x : ℕ). getD f x 0 ≡ 0) (sym w) q)),
+        )
 
     to : DeadAt (tab n (λ j. cond (live offs (λ k. getD a k 0) j) (byte (getD a j 0)) (spare 0))) p i → (Among p n i) × (Covered f p offs i → ⊥)
     to d =

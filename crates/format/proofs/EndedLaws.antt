@@ -84,4 +84,3 @@ module _ (o : Order) (w : ℕ) where
             (let q = ended-fits n f p u l (ltb-true (length (endedAt o w n f p)) n (unless-true (ltb (length (endedAt o w n f p)) n) c h j)) in
             record { right = q .0; fits = q .1; ends = l });
       }
-

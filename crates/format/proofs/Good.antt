@@ -392,4 +392,3 @@ module _ {w : ℕ} {A : Type 0} (S : Sect A) (wide : (a : A) → S .Right a → 
         sound = λ f p u l j. (let k = times-sound n f p u l j in
             record { right = (k .0, k .1); fits = k .2; ends = rw (all-sized S G (readTimes S n f p)) at (fits-bound f p (allSlots S (readTimes S n f p)) (k .2)) });
       }
-
