@@ -89,7 +89,7 @@ module _ (e : Edition) (o : Order) (small : e .number < 256) (R : ℕ → ℕ �
   pub file-to-good : Good 0 R (fileTo e o end)
   unfolding fileTo
   file-to-good =
-      told-good _ (ruled-good _ sections-good (mapRule e o) 10 (omega arith)) gather (spread e o) (λ w. refl)
+      told-good _ (ruled-good _ sections-good (mapRule e o) _ (omega arith)) gather (spread e o) (λ w. refl)
       (λ v r. (λ i. (v .0, (sym (same-list (v .1 .0) (mapOf e o (gather v)) (r .1)) i, v .1 .1))))
 
 pub file-good : (e : Edition) (o : Order) → e .number < 256 → Good 0 _≡_ (file e o)
