@@ -22,7 +22,7 @@ use Rattle.format.specs.Dta.{Dataset, Extras, headOf, partSizes, positio
 use Rattle.format.specs.Dead.{Among, AfterZero, InFields, InSortList, InRow, InCells, SomeAt, InExpansion, nameAt, textsAt, Covered, InBlock, blockName, padding, labelText, DeadPlace, unused, oldLabel, varName, sortEntry, displayFormat, labelSet, variableLabel, expansionContents, textCell, labelBlock}
 use Rattle.format.specs.Dead as Dead
 use Rattle.format.proofs.SlotLaws.{fits-left, fits-right, fits-after, length-tab}
-use Rattle.format.proofs.Good.{Good, all-sized, text-good, number-good, good-right, and-left, and-right}
+use Rattle.format.proofs.Good.{Good, between-fits, all-sized, text-good, number-good, good-right, and-left, and-right}
 use Rattle.format.proofs.RowLaws.{row-wide, row-of-good}
 use Rattle.format.proofs.HeaderLaws.{header-good}
 use Rattle.format.proofs.VariableLaws.{name-good, name-wide, types-good, names-good, sort-good, fields-good}
@@ -42,9 +42,7 @@ iff-same = record { to = λ a. a; from = λ a. a }
 part-dead : {A X : Type 0} (l r : List ℕ) (S : Sect A) (a : A) (f : List ℕ) (p i : ℕ) → between l r S .Right a → Fits f p (between l r S .slots a)
     → (S .Right a → Fits f (p + length l) (S .slots a) → Iff (DeadAt (S .slots a) (p + length l) i) X) → Iff (DeadAt (between l r S .slots a) p i) X
 unfolding between tag
-part-dead l r S a f p i q m h =
-    let n : Fits f (p + length l) (S .slots a ++ map byte r) = rw (length-map l byte) at (fits-right f p (map byte l) (S .slots a ++ map byte r) m) in
-    iff-join (dead-between l r S a p i) (h (q .1 .0) (fits-left f (p + length l) (S .slots a) (map byte r) n))
+part-dead l r S a f p i q m h = iff-join (dead-between l r S a p i) (h (q .1 .0) (between-fits l r S a f p m))
 
 -- k texts of w bytes
 texts-dead : (S : Sect (List ℕ)) (w : ℕ) (G : Good w _≤_ S) (wide : (t : List ℕ) → S .Right t → S .size t ≡ w)

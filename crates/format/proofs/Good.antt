@@ -13,7 +13,7 @@ use borrow.Author.Tests.{eqb-true, eqb-false, eq-eqb, ne-eqb, leb-true, leb-fals
 use Rattle.format.specs.Slot.{Slot, byte, spare, Takes, Fits, Bytes, put}
 use Rattle.format.specs.Number.{Order, num, numSlots, tab}
 use Rattle.format.specs.Grammar.{Sect, also, unless, need, within, lit, idle, number, noZero, textSlots, textAt, text, fixed, raw, coded, sameAt, tag, between, ruled, next, seq, allSlots, sizes, AllRight, judgeTimes, readTimes, times, done, told}
-use Rattle.format.proofs.SlotLaws.{fits-bound, fits-start, fits-left, fits-right, fits-append, fits-idle, length-tab, tab-bytes, Small, small-append, small-idle, small-bytes}
+use Rattle.format.proofs.SlotLaws.{fits-bound, fits-start, fits-left, fits-right, fits-after, fits-append, fits-idle, length-tab, tab-bytes, Small, small-append, small-idle, small-bytes}
 use Rattle.format.proofs.NumberLaws.{num-read, num-fits, num-small, number-small}
 
 -- ---- refusal numbers
@@ -347,6 +347,11 @@ between-good l r S x y G =
     told-good _ (seq-good (tag l 4) (λ u. seq S λ a. tag r 4) (tag-good l 4 x (omega arith)) λ u. seq-good S (λ a. tag r 4) G λ a. tag-good r 4 y (omega arith))
     (λ v. v .1 .0) (λ a. (tt, (a, tt))) (λ a. refl) (λ a r. refl)
 
+-- S between two tags that stand in a file: S stands after the first
+pub between-fits : {A : Type 0} (l r : List ℕ) (S : Sect A) (a : A) (f : List ℕ) (p : ℕ) → Fits f p (between l r S .slots a) → Fits f (p + length l) (S .slots a)
+unfolding between tag
+between-fits l r S a f p m = fits-left f (p + length l) (S .slots a) (map byte r) (fits-after f p (length l) (map byte l) (S .slots a ++ map byte r) (length-map l byte) m)
+
 -- n sections of w bytes
 module _ {w : ℕ} {R : ℕ → ℕ → Type 0} {A : Type 0} (S : Sect A) (G : Good w R S) where
   pub all-sized : (l : List A) → length (allSlots S l) ≡ sizes S l
@@ -392,3 +397,23 @@ module _ {w : ℕ} {A : Type 0} (S : Sect A) (wide : (a : A) → S .Right a → 
         sound = λ f p u l j. (let k = times-sound n f p u l j in
             record { right = (k .0, k .1); fits = k .2; ends = rw (all-sized S G (readTimes S n f p)) at (fits-bound f p (allSlots S (readTimes S n f p)) (k .2)) });
       }
+
+-- element i of a list of sections of w bytes that stands at p: what is read there, and that it is right and stands there
+module _ {n w : ℕ} {A : Type 0} (S : Sect A) (G : Good n _≤_ S) (wide : (a : A) → S .Right a → S .size a ≡ w) (z : A) where
+  pub record Element (f : List ℕ) (p : ℕ) (l : List A) (i : ℕ) : Type 0 where
+    pub reads : S .read f (p + i * w) ≡ getD l i z
+    pub right : S .Right (getD l i z)
+    pub fits : Fits f (p + i * w) (S .slots (getD l i z))
+    pub inside : p + i * w + w ≤ length f
+
+  pub element : (l : List A) (f : List ℕ) (p i : ℕ) → AllRight S l → Fits f p (allSlots S l) → i < length l → Element f p l i
+  element [] f p i r m b = absurd (not-suc-le-zero b)
+  element (a ∷ l) f p zero r m b =
+      let h = fits-left f p (S .slots a) (allSlots S l) m in
+      let k = good-bound S G f p a h in
+      let e : p + 0 * w ≡ p = rw zero-mul (add-zero p) in
+      record { reads = rw e (G .complete f p a (r .0) h k .readBack); right = r .0; fits = rw e h; inside = rw e (omega (arith, wide a (r .0))) }
+  element (a ∷ l) f p (suc i) r m b =
+      let k = element l f (p + S .size a) i (r .1) (good-right S G f p a (allSlots S l) m) (omega arith) in
+      let e : p + S .size a + i * w ≡ p + suc i * w = rw suc-mul (omega (arith, wide a (r .0))) in
+      record { reads = rw e at (k .reads); right = k .right; fits = rw e at (k .fits); inside = rw e at (k .inside) }
