@@ -17,18 +17,24 @@ use Rattle.format.specs.Labels.{LabelBlock, block, blocks}
 
 -- what a file says (document 01, "Three editions, one dataset")
 pub record Dataset : Type 0 where
+  -- K, the number of variables, and N, the number of observations
   pub k : ℕ
   pub n : ℕ
+  -- dataset label and stamp
   pub label : List ℕ
   pub stamp : List ℕ
+  -- of each variable: type and name
   pub varTypes : List VarType
   pub varNames : List (List ℕ)
+  -- the sort list: variable numbers
   pub sorted : List ℕ
+  -- of each variable: display format, label-set name, variable label
   pub displayFormats : List (List ℕ)
   pub labelSets : List (List ℕ)
   pub variableLabels : List (List ℕ)
-  -- a list for each observation
+  -- of each observation: its cells
   pub cells : List (List Cell)
+  -- long strings and label blocks, in file order
   pub longStrings : List LongString
   pub labelBlocks : List LabelBlock
 
