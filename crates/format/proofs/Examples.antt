@@ -7,26 +7,35 @@ use mathlib.Core.List.{List, [], _∷_, _++_}
 use mathlib.Core.Bool.{true, false}
 use lib.ListN.{length, getD, replicate, set}
 use lib.Dec.{leb}
+use lib.IntN.{pos}
+use lib.Ieee.{binary32, ofBits}
 use Rattle.format.specs.Slot.{fill}
 use Rattle.format.specs.Number.{msf, lsf}
 use Rattle.format.specs.Grammar.{Sect, unless, tag, between, done}
 use Rattle.format.specs.Edition.{r114, r117, edition, ascii}
 use Rattle.format.specs.Header.{oldStamp, oldHeader, counted, newFacts, newHeader}
-use Rattle.format.specs.Variables.{floatType, intType, fileMap, typeCode, types, name, names, sortList, fields}
+use Rattle.format.specs.Variables.{VarType, byteType, floatType, doubleType, intType, fileMap, typeCode, types, name, names, sortList, fields}
 use Rattle.format.specs.Expansion.{expansionHead, expansionBody, expansion, expansions}
 use Rattle.format.specs.Data.{Cell, bits, link, observations, LongString, linked, longHead, longRecord, strls}
+use Rattle.format.specs.Cells.{Says, whole, single, letter, outside, saysAt, Key, nothing, seeks, keyReal, keyOf}
+use Rattle.format.specs.Cells as Cells
 use Rattle.format.specs.Labels.{tableHead, tableBody, table, blockHead, block, blocks}
 use Rattle.format.specs.Dta.{Dataset, Layout, partSizes, fromStrls, fromData, fromExpansions, fromVarLabels, fromSetNames, fromFormats, fromSortList, fromNames, fromTypes, fromMap, sections, fileTo, verdict, contents, datasetOf, layoutOf, written}
 
 -- ---- the examples of document 01
 
--- an example: a label table, MSF, and the number that judging it gives; or an accepted file and its layout
+-- an example: a cell of a type, by its bytes, MSF, and what it says; what it seeks in a label table; a label table, MSF, and the number that
+-- judging it gives; an accepted file and its layout
 pub data Example : Type 0 where
+  cellSays : VarType → List ℕ → Says → Example
+  cellSeeks : VarType → List ℕ → Key → Example
   tableJudged : List ℕ → ℕ → Example
   fileLaidOut : List ℕ → Layout → Example
 
 -- the example holds
 abbrev pub Holds : Example → Type 0
+Holds (cellSays t c s) = saysAt msf 4 4 t c 0 ≡ s
+Holds (cellSeeks t c k) = keyOf (saysAt msf 4 4 t c 0) ≡ k
 Holds (tableJudged t n) = table msf (length t) .judge t 0 ≡ n
 Holds (fileLaidOut f l) = (verdict f ≡ 0) × (layoutOf f ≡ l)
 
@@ -64,19 +73,30 @@ p14 =
     ++ ascii "</variable_labels><characteristics></characteristics><data>" ++ replicate 6 0
     ++ ascii "</data><strls></strls><value_labels></value_labels></stata_dta>"
 
--- the table of the examples: P12, P13, P14
+-- the table of the examples, P1 to P14
 pub documented : List Example
 documented =
-    tableJudged (yesNo 1 2) 0
+    cellSays byteType (0x64 ∷ []) (whole (pos 100))
+    ∷ cellSays byteType (0x65 ∷ []) (letter 0)
+    ∷ cellSays byteType (0x80 ∷ []) outside
+    ∷ cellSays floatType (0x7e ∷ 0xff ∷ 0xff ∷ 0xff ∷ []) (single (ofBits binary32 0x7effffff))
+    ∷ cellSays floatType (0x7f ∷ 0x00 ∷ 0xd0 ∷ 0x00 ∷ []) (letter 26)
+    ∷ cellSays floatType (0x7f ∷ 0x00 ∷ 0x08 ∷ 0x01 ∷ []) Cells.between
+    ∷ cellSays doubleType (0x7f ∷ 0xe0 ∷ 0x01 ∷ 0 ∷ 0 ∷ 0 ∷ 0 ∷ 0 ∷ []) (letter 1)
+    ∷ cellSeeks doubleType (0x40 ∷ 0x22 ∷ 0 ∷ 0 ∷ 0 ∷ 0 ∷ 0 ∷ 0 ∷ []) (seeks (pos 9))
+    ∷ cellSeeks doubleType (0x40 ∷ 0x23 ∷ 0x66 ∷ 0x66 ∷ 0x66 ∷ 0x66 ∷ 0x66 ∷ 0x66 ∷ []) nothing
+    ∷ cellSeeks doubleType (0x41 ∷ 0xdf ∷ 0xff ∷ 0xff ∷ 0xf9 ∷ 0x80 ∷ 0 ∷ 0 ∷ []) nothing
+    ∷ cellSeeks doubleType (0x80 ∷ 0 ∷ 0 ∷ 0 ∷ 0 ∷ 0 ∷ 0 ∷ 0 ∷ []) (seeks (pos 0))
+    ∷ tableJudged (yesNo 1 2) 0
     ∷ tableJudged (yesNo 2 1) 12
     ∷ fileLaidOut p14
     (record { release = 117; order = 1; variables = 2; rows = 1; places = 0 ∷ 153 ∷ 276 ∷ 313 ∷ 400 ∷ 427 ∷ 544 ∷ 649 ∷ 846 ∷ 881 ∷ 900 ∷ 915 ∷ 944 ∷ 956 ∷ [] })
     ∷ []
 
--- 7. The examples hold.
+-- 7. The examples hold (P1 to P14).
 pub examples : AllHold documented
-unfolding documented p14 verdict layoutOf contents fileTo sections fromMap fromTypes fromNames fromSortList fromFormats fromSetNames fromVarLabels fromExpansions fromData fromStrls partSizes newFacts newHeader counted fileMap typeCode types name names sortList fields expansions observations linked strls tableHead tableBody table blocks tag between
-examples = (refl, (refl, ((refl, refl), tt)))
+unfolding documented p14 keyReal ofBits verdict layoutOf contents fileTo sections fromMap fromTypes fromNames fromSortList fromFormats fromSetNames fromVarLabels fromExpansions fromData fromStrls partSizes newFacts newHeader counted fileMap typeCode types name names sortList fields expansions observations linked strls tableHead tableBody table blocks tag between
+examples = (refl, (refl, (refl, (refl, (refl, (refl, (refl, (refl, (refl, (refl, (refl, (refl, (refl, ((refl, refl), tt))))))))))))))
 
 -- ---- what P14 says, and that it is written as it was
 

@@ -9,7 +9,7 @@ use lib.ListN.{length, getD, drop}
 use lib.Dec.{eqb, leb, ltb}
 use borrow.Author.Tests.{eqb-true, eq-eqb, leb-true, le-leb}
 use Rattle.format.specs.Slot.{Slot, byte, spare, Fits, Bytes, fill, dead}
-use Rattle.format.specs.Number.{Order, msf, lsf}
+use Rattle.format.specs.Number.{Order, msf, lsf, orderBy}
 use Rattle.format.specs.Grammar.{Sect, also, unless, ruled, seq, told, done, idle, tag, between, sameAt}
 use Rattle.format.specs.Edition.{Edition, Release, r113, r114, r117, edition, taggedStart, start, orderMark, orderText, opening, closing, n-byteorder}
 use Rattle.format.specs.Header.{Head, oldHeader, newFacts, newHeader, header}
@@ -139,14 +139,14 @@ pub record Marked (r : Release) (o : Order) (f : List ℕ) : Type 0 where
   pub release : releaseOf f ≡ r
   pub order : orderOf f ≡ o
 
-order-old : (o : Order) (f : List ℕ) → getD f 1 0 ≡ orderMark o → cond (eqb (getD f 1 0) 1) msf lsf ≡ o
+order-old : (o : Order) (f : List ℕ) → getD f 1 0 ≡ orderMark o → orderBy (eqb (getD f 1 0) 1) ≡ o
 order-old msf f h = rw h
 order-old lsf f h = rw h
 
 first-of : (x : ℕ) (l : List ℕ) (f : List ℕ) (p : ℕ) → sameAt (x ∷ l) f p ≡ true → getD f p 0 ≡ x
 first-of x l f p h = eqb-true (getD f p 0) x (and-left (eqb (getD f p 0) x) (sameAt l f (suc p)) h)
 
-order-new : (o : Order) (f : List ℕ) → sameAt (orderText o) f 52 ≡ true → cond (sameAt (orderText msf) f 52) msf lsf ≡ o
+order-new : (o : Order) (f : List ℕ) → sameAt (orderText o) f 52 ≡ true → orderBy (sameAt (orderText msf) f 52) ≡ o
 order-new msf f h = rw h
 order-new lsf f h = rw (first-of 76 (83 ∷ 70 ∷ []) f 52 h)
 

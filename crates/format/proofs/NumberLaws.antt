@@ -13,7 +13,7 @@ use Rattle.format.specs.Slot.{Slot, byte, spare, Takes, Fits, Bytes}
 use Rattle.format.specs.Number.{Order, msf, lsf, seat, val, digit, tab, num, numSlots}
 use Rattle.format.proofs.SlotLaws.{tab-at, fits-tab, Small, small-tab}
 
-val-same : (d e : ℕ → ℕ) (w : ℕ) → ((k : ℕ) → k < w → d k ≡ e k) → val d w ≡ val e w
+pub val-same : (d e : ℕ → ℕ) (w : ℕ) → ((k : ℕ) → k < w → d k ≡ e k) → val d w ≡ val e w
 val-same d e zero h = refl
 val-same d e (suc w) h = omega (arith, val-same d e w (λ k b. h k (omega arith)), h w (omega arith))
 
@@ -30,11 +30,11 @@ val-digit (suc w) n b =
     let s : n / 256 < 256 ^ w = omega (arith, rw pow-suc at b) in
     omega (arith, val-same (digit (suc w) n) (digit w (n / 256)) w (digit-front w n), val-digit w (n / 256) s, digit-last w n)
 
-val-small : (d : ℕ → ℕ) (w : ℕ) → ((k : ℕ) → d k < 256) → val d w < 256 ^ w
+pub val-small : (d : ℕ → ℕ) (w : ℕ) → ((k : ℕ) → d k < 256) → val d w < 256 ^ w
 val-small d zero h = rw pow-zero (omega arith)
 val-small d (suc w) h = rw pow-suc (omega (arith, val-small d w h, h w))
 
-digit-val : (d : ℕ → ℕ) (w : ℕ) → ((k : ℕ) → d k < 256) → (k : ℕ) → k < w → digit w (val d w) k ≡ d k
+pub digit-val : (d : ℕ → ℕ) (w : ℕ) → ((k : ℕ) → d k < 256) → (k : ℕ) → k < w → digit w (val d w) k ≡ d k
 digit-val d zero h k b = absurd (not-suc-le-zero b)
 digit-val d (suc w) h k b = go (eqb k w) refl (digit-val d w h k)
   where
@@ -49,11 +49,11 @@ digit-val d (suc w) h k b = go (eqb k w) refl (digit-val d w h k)
     go true e ih = rw e (last ∙ ap d (sym (eqb-true k w e)))
     go false e ih = rw (e, front) (ih (omega (arith, eqb-false k w e)))
 
-seat-below : (o : Order) (w k : ℕ) → k < w → seat o w k < w
+pub seat-below : (o : Order) (w k : ℕ) → k < w → seat o w k < w
 seat-below msf w k b = b
 seat-below lsf w k b = omega arith
 
-seat-twice : (o : Order) (w k : ℕ) → k < w → seat o w (seat o w k) ≡ k
+pub seat-twice : (o : Order) (w k : ℕ) → k < w → seat o w (seat o w k) ≡ k
 seat-twice msf w k b = refl
 seat-twice lsf w k b = omega arith
 

@@ -6,7 +6,7 @@ use mathlib.Core.Bool.{Bool, true, false, cond, _&&_, _||_}
 use lib.ListN.{length, getD, replicate}
 use lib.Dec.{eqb, leb, ltb}
 use Rattle.format.specs.Slot.{Slot, fill, dead}
-use Rattle.format.specs.Number.{Order, msf, lsf}
+use Rattle.format.specs.Number.{Order, msf, orderBy}
 use Rattle.format.specs.Grammar.{Sect, also, unless, ruled, seq, told, done, sizes, eachSize, sameAt}
 use Rattle.format.specs.Edition.{Edition, Release, r113, r114, r117, edition, start, orderMark, orderText, mapCount, opening, closing, n-map, n-value-labels, n-stata-dta}
 use Rattle.format.specs.Header.{Head, header}
@@ -229,7 +229,7 @@ isMsf false f = eqb (getD f 1 0) (orderMark msf)
 
 -- its byte order, LSF where it isn't MSF; the header judges whether it is
 abbrev pub orderOf : List ℕ → Order
-orderOf f = cond (isMsf (editionOf f .tagged) f) msf lsf
+orderOf f = orderBy (isMsf (editionOf f .tagged) f)
 
 -- ---- what is answered about a file
 

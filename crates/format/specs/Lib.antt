@@ -9,3 +9,5 @@ pub mod Data
 pub mod Labels
 pub mod Dta
 pub mod Dead
+pub mod Cells
+pub mod Search

@@ -1,7 +1,7 @@
 -- Numbers of any width in either byte order.
 use Prim.Native.Nat.{ℕ, zero, suc, _+_, _-_, _*_, _/_, _%_}
 use mathlib.Core.List.{List, [], _∷_}
-use mathlib.Core.Bool.{Bool, cond}
+use mathlib.Core.Bool.{Bool, true, false, cond}
 use lib.ListN.{getD}
 use lib.Dec.{eqb}
 use Rattle.format.specs.Slot.{Slot, byte}
@@ -9,6 +9,11 @@ use Rattle.format.specs.Slot.{Slot, byte}
 -- byte order: most significant byte first, or least significant byte first
 pub data Order : Type 0 where
   msf lsf : Order
+
+-- the byte order, by whether it is most significant byte first
+abbrev pub orderBy : Bool → Order
+orderBy true = msf
+orderBy false = lsf
 
 -- Digits of base 256 are counted from the most significant one, 0, on. Digit k of a number of w bytes stands at this place,
 -- counted from its first byte; and this digit stands at place k.
