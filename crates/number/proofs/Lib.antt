@@ -1,0 +1,3 @@
+pub mod HalfLaws
+pub mod SwapLaws
+pub mod WriteLaws

@@ -1,0 +1,17 @@
+use mathlib.Core.Path.{refl}
+use Rattle.number.proofs.HalfLaws.{swapped-byte, swapped-halves}
+use borrow.Author.Needs.{needs}
+use Rattle.number.proofs.swap_2.Statement.{statement}
+use Rattle.number.proofs.swap_2.Tie as tie
+
+mul-result : tie.Need-mul-result
+mul-result c = search needs
+
+add-result : tie.Need-add-result
+add-result c = search needs
+
+returns : tie.Need-returns
+returns c = swapped-halves 1 _ _ _ _ (swapped-byte _) (swapped-byte _) refl
+
+pub swap-2-spec : {M : Type 1} → statement M
+swap-2-spec = tie.close (tie.spec mul-result add-result returns)
