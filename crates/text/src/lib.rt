@@ -1,0 +1,82 @@
+ghost use mathlib.Core.Path.{_≡_};
+ghost use mathlib.Core.List.{_++_};
+ghost use Prim.Native.Nat.{ℕ, _+_, _≤_};
+ghost use lib.ListN.{length, take, drop, replicate};
+ghost use Rattle.format.specs.Slot.{fill};
+ghost use Rattle.format.specs.Grammar.{textAt, textSlots, sameAt, tag};
+ghost use Rattle.text.specs.Texts.{IsTextLength};
+
+// The length of the text in the field of `w` bytes at `p`: it ends before the first zero, or at the field's end.
+pub fn text_len(f: &[u8], p: usize, w: usize) -> usize
+    requires { ⌜ p + w ≤ length (now f) ⌝ }
+    ensures { λ r. ⌜ IsTextLength w (now (f .entry)) p r ⌝ }
+{
+    let mut n: usize = 0;
+    while n < w {
+        if f[p + n] == 0 {
+            return n;
+        }
+        n += 1;
+    }
+    n
+}
+
+// Copies the `m` bytes of `f` at `p` to the start of `out`.
+pub fn put_bytes(out: &mut [u8], f: &[u8], p: usize, m: usize)
+    requires { ⌜ (p + m ≤ length (now f)) × (m ≤ length (now out)) ⌝ }
+    ensures { λ _. ⌜ now (out .exit) ≡ take m (drop p (now (f .entry))) ++ drop m (now (out .entry)) ⌝ }
+{
+    let mut i: usize = 0;
+    while i < m {
+        out[i] = f[p + i];
+        i += 1;
+    }
+}
+
+// Puts `m` zeros at the start of `out`.
+pub fn put_zeros(out: &mut [u8], m: usize)
+    requires { ⌜ m ≤ length (now out) ⌝ }
+    ensures { λ _. ⌜ now (out .exit) ≡ replicate m 0 ++ drop m (now (out .entry)) ⌝ }
+{
+    let mut j: usize = 0;
+    while j < m {
+        out[j] = 0;
+        j += 1;
+    }
+}
+
+// Copies the text in the field of `w` bytes at `p` into a field of `n` bytes at the start of `out`, with zeros after it.
+pub fn put_text(out: &mut [u8], f: &[u8], p: usize, w: usize, n: usize)
+    requires { ⌜ (p + w ≤ length (now f)) × (n ≤ length (now out)) × (length (textAt w (now f) p) ≤ n) ⌝ }
+    ensures { λ _. ⌜ now (out .exit) ≡ fill (textSlots n (textAt w (now (f .entry)) p)) ++ drop n (now (out .entry)) ⌝ }
+{
+    let m = text_len(f, p, w);
+    put_bytes(&mut out[..], f, p, m);
+    put_zeros(&mut out[m..], n - m);
+}
+
+// Whether the bytes of `t` stand at `p`.
+pub fn same_at(f: &[u8], p: usize, t: &[u8]) -> bool
+    requires { ⌜ p + length (now t) ≤ length (now f) ⌝ }
+    ensures { λ r. ⌜ r ≡ sameAt (now (t .entry)) (now (f .entry)) p ⌝ }
+{
+    let mut k: usize = 0;
+    while k < t.len() {
+        if f[p + k] != t[k] {
+            return false;
+        }
+        k += 1;
+    }
+    true
+}
+
+// The refusal number of the tag `t` at `p`: 3 where the file is too short, `c` where its bytes differ, else 0.
+pub fn tag_at(f: &[u8], p: usize, t: &[u8], c: u8) -> u8
+    requires { ⌜ p ≤ length (now f) ⌝ }
+    ensures { λ r. ⌜ r ≡ tag (now (t .entry)) c .judge (now (f .entry)) p ⌝ }
+{
+    if f.len() - p < t.len() {
+        return 3;
+    }
+    if same_at(f, p, t) { 0 } else { c }
+}
