@@ -1,0 +1,3 @@
+pub mod SignedLaws
+pub mod TurnLaws
+pub mod SearchLaws
