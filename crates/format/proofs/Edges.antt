@@ -4,7 +4,7 @@ use Prim.Native.Nat.{ℕ, zero, suc, _+_, _-_}
 use Prim.Native.String.{String}
 use mathlib.Core.List.{List, [], _∷_, _++_}
 use mathlib.Core.Bool.{Bool, true, false, cond}
-use lib.ListN.{length, replicate, set}
+use lib.ListN.{length, replicate, set, take}
 use lib.Dec.{eqb, leb}
 use Rattle.format.specs.Slot.{Slot, dead}
 use Rattle.format.specs.Number.{msf, lsf}
@@ -14,7 +14,7 @@ use Rattle.format.specs.Header.{oldStamp, oldHeader, counted, newFacts, 
 use Rattle.format.specs.Variables.{textType, strLType, doubleType, fileMap, typeCode, types, name, names, sortList, fields}
 use Rattle.format.specs.Expansion.{expansionHead, expansionBody, expansion, expansions}
 use Rattle.format.specs.Data.{Cell, bits, link, observations, LongString, linked, longHead, longRecord, strls}
-use Rattle.format.specs.Labels.{tableHead, tableBody, table, blockHead, block, blocks}
+use Rattle.format.specs.Labels.{tableSizes, tableHead, tableBody, table, blockHead, block, blocks}
 use Rattle.format.specs.Dta.{partSizes, fromStrls, fromData, fromExpansions, fromVarLabels, fromSetNames, fromFormats, fromSortList, fromNames, fromTypes, fromMap, sections, fileTo, verdict, allShorter, allTypes}
 use Rattle.format.proofs.Examples.{yesNo, at}
 
@@ -49,11 +49,13 @@ headers =
     ∷ ("117 label: length 81 before its bytes", counted msf 1 (λ x. leb x 80) .judge (81 ∷ []) 0, 5)
     ∷ ("117 label: a byte short", counted msf 1 (λ x. leb x 80) .judge (2 ∷ 0 ∷ []) 0, 3)
     ∷ ("117 label: a zero inside", counted msf 1 (λ x. leb x 80) .judge (2 ∷ 65 ∷ 0 ∷ []) 0, 5)
+    ∷ ("117: K's rule before </K>", newFacts msf 4 1 80 .judge (ascii "<K>" ++ (255 ∷ 255 ∷ []) ++ ascii "</X>") 0, 5)
+    ∷ ("a cut tag that differs", tag (ascii "<map>") 4 .judge (ascii "<mxp") 0, 3)
     ∷ ("117 stamp: 16 bytes", counted msf 1 stampLength .judge (16 ∷ replicate 16 65) 0, 5)
     ∷ []
 
 headers-agree : wrong headers ≡ []
-unfolding headers oldHeader oldStamp counted
+unfolding headers oldHeader oldStamp counted newFacts between tag
 headers-agree = refl
 
 -- ---- variables
@@ -129,6 +131,7 @@ longStrings =
     ∷ ("kind 130 with an inner zero", eleven ((link 1 1 ∷ []) ∷ []) (gso 1 1 130 (65 ∷ 0 ∷ 65 ∷ 0 ∷ []) ∷ []), 11)
     ∷ ("kind 130 without its zero", eleven ((link 1 1 ∷ []) ∷ []) (gso 1 1 130 (65 ∷ 66 ∷ []) ∷ []), 11)
     ∷ ("11 before </strls>", strls true msf 4 ((link 1 1 ∷ []) ∷ []) .judge (ascii "<strls></strlx>") 0, 11)
+    ∷ ("11 before a missing </strls>", strls true msf 4 ((link 1 1 ∷ []) ∷ []) .judge (ascii "<strls>GS") 0, 11)
     ∷ ("</strls> differs", strls true msf 4 [] .judge (ascii "<strls></strlx>") 0, 4)
     ∷ []
 
@@ -174,6 +177,11 @@ labels =
     ∷ ("name before a wrong table", block false msf 33 .judge (head 31 [] ++ yesNo 2 1) 0, 7)
     ∷ ("a block", block false msf 33 .judge (head 31 (ascii "yesno") ++ yesNo 1 2) 0, 0)
     ∷ ("12 before </lbl>", block true msf 33 .judge (ascii "<lbl>" ++ head 31 (ascii "yesno") ++ yesNo 2 1 ++ ascii "</lbx>") 0, 12)
+    ∷ ("</lbl> differs", block true msf 33 .judge (ascii "<lbl>" ++ head 31 (ascii "yesno") ++ yesNo 1 2 ++ ascii "</lbx>") 0, 4)
+    ∷ ("65,536 entries", unless (tableSizes 524296 (65536, 0)) 12, 0)
+    ∷ ("65,537 entries", unless (tableSizes 524304 (65537, 0)) 12, 12)
+    ∷ ("5,308,416 text bytes", unless (tableSizes 5308424 (0, 5308416)) 12, 0)
+    ∷ ("5,308,417 text bytes", unless (tableSizes 5308425 (0, 5308417)) 12, 12)
     ∷ ("<lbl> not next", blocks true msf 33 (done 13) .judge (ascii "<value_labels><lbx></value_labels>") 0, 4)
     ∷ []
 
@@ -262,6 +270,7 @@ files =
     ∷ ("the byte 114", verdict (114 ∷ []), 3)
     ∷ ("the byte 116", verdict (116 ∷ []), 2)
     ∷ ("no variables", verdict least, 0)
+    ∷ ("without </stata_dta>", verdict (take 521 least), 3)
     ∷ ("a byte after </stata_dta>", verdict (least ++ 0 ∷ []), 13)
     ∷ ("a wrong position", verdict (set least 148 1), 10)
     ∷ ("13 before 10", verdict (set least 148 1 ++ 0 ∷ []), 13)
