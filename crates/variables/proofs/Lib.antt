@@ -1,0 +1,4 @@
+pub mod ListLaws
+pub mod PartLaws
+pub mod TypeLaws
+pub mod SortLaws
