@@ -1,0 +1,3 @@
+pub mod SeqLaws
+pub mod WalkSteps
+pub mod BlockLaws
