@@ -53,16 +53,17 @@ pub fn check(file: &[u8]) -> Result<Layout, u8> {
 
 /// `edition MSF|LSF K N length`, or `refused NUMBER`.
 pub fn line(file: &[u8]) -> String {
-    match check(file) {
+    line_of(&check(file), file.len())
+}
+
+/// The line of a file of that length with that verdict.
+pub fn line_of(verdict: &Result<Layout, u8>, length: usize) -> String {
+    match verdict {
         Ok(layout) => {
             let order = if layout.byte_order == 1 { "MSF" } else { "LSF" };
             format!(
                 "{} {} {} {} {}",
-                layout.edition,
-                order,
-                layout.k,
-                layout.n,
-                file.len()
+                layout.edition, order, layout.k, layout.n, length
             )
         }
         Err(number) => format!("refused {number}"),

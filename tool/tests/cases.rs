@@ -1,41 +1,12 @@
 //! The reader against the stated cases, and against the paper's own statements.
 
+use dta_tool::stated::{case, differing};
 use dta_tool::{check, line, Layout};
-use std::collections::BTreeSet;
-use std::path::{Path, PathBuf};
 
 const OPENING_LENGTH: usize = 41;
 
-fn folder(name: &str) -> PathBuf {
-    Path::new(env!("CARGO_MANIFEST_DIR"))
-        .join("../tests")
-        .join(name)
-}
-
-fn case(name: &str) -> Vec<u8> {
-    std::fs::read(folder("cases").join(format!("{name}.dta"))).unwrap()
-}
-
 fn accepted(file: &[u8]) -> Layout {
     check(file).expect("the file is accepted")
-}
-
-/// File name and line of each entry of the folder's expected.tsv.
-fn expected(name: &str, suffix: &str) -> Vec<(String, String)> {
-    let table = std::fs::read_to_string(folder(name).join("expected.tsv")).unwrap();
-    let entry = |entry: &str| {
-        let (name, line) = entry.split_once('\t').expect("a tab in each entry");
-        (format!("{name}{suffix}"), line.to_string())
-    };
-    table.lines().map(entry).collect()
-}
-
-fn dta_files(name: &str) -> BTreeSet<String> {
-    std::fs::read_dir(folder(name))
-        .unwrap()
-        .map(|entry| entry.unwrap().file_name().into_string().unwrap())
-        .filter(|name| name.ends_with(".dta"))
-        .collect()
 }
 
 // Files made here, by the paper.
@@ -149,27 +120,8 @@ fn p14() -> Vec<u8> {
 
 #[test]
 fn every_case_gets_its_line() {
-    let mut checked = 0;
-    let mut wrong = Vec::new();
-    for (name, suffix) in [("cases", ".dta"), ("samples", "")] {
-        let entries = expected(name, suffix);
-        let named: BTreeSet<String> = entries.iter().map(|entry| entry.0.clone()).collect();
-        assert_eq!(
-            named,
-            dta_files(name),
-            "{name}: each file has an entry and each entry a file"
-        );
-        for (file_name, stated) in entries {
-            let file = std::fs::read(folder(name).join(&file_name)).unwrap();
-            let found = line(&file);
-            if found != stated {
-                wrong.push(format!("{name}/{file_name}: {found}, stated {stated}"));
-            }
-            checked += 1;
-        }
-    }
+    let wrong = differing(line);
     assert!(wrong.is_empty(), "{wrong:#?}");
-    assert!(checked >= 400, "only {checked} files were checked");
 }
 
 // The paper's examples.
@@ -210,15 +162,6 @@ fn smallest_inputs() {
     assert_eq!(line(&[114]), "refused 3");
     assert_eq!(line(&[113]), "refused 3");
     assert_eq!(line(&[115]), "refused 2");
-}
-
-#[test]
-#[ignore = "needs 2 GiB of address space"]
-fn length_bound_comes_first() {
-    // Pages of zeros that nobody touches.
-    let zeros = vec![0; 2_147_483_648];
-    assert_eq!(check(&zeros), Err(1));
-    assert_eq!(check(&zeros[1..]), Err(2));
 }
 
 #[test]

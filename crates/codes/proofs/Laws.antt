@@ -1,11 +1,11 @@
 -- The type of a field is the type whose field it is, and its kind is known; what a code says that is no numeric type's. Assumes nothing.
 use mathlib.Core.Path.{_≡_, refl}
 use mathlib.Core.Bool.{Bool, true, false, cond, _&&_, and-false}
-use Prim.Native.Nat.{ℕ, _≤_, _<_}
+use Prim.Native.Nat.{ℕ, _^_, _≤_, _<_}
 use native.Mathlib.Omega.{arith}
 use borrow.Author.Tests.{le-leb, lt-leb, ne-eqb, eqb-true}
 use lib.Dec.{eqb, leb}
-use Rattle.format.specs.Edition.{textMax}
+use Rattle.format.specs.Edition.{textMax, codeWidth}
 use Rattle.format.specs.Variables.{VarType, textType, strLType, byteType, intType, longType, floatType, doubleType, codeOf, typeBy}
 use Rattle.codes.specs.Fields.{fieldBy, unknown, fieldOf, known, typeOf}
 
@@ -58,3 +58,8 @@ module _ (t : Bool) (c : ℕ) (h : Wordy t c) where
       go : (b : Bool) → eqb c 32768 ≡ b → fieldOf t c ≡ unknown
       go true e = rw (wordy, e, n (eqb-true _ _ e))
       go false e = rw (wordy, e, lt-leb _ _ l, and-false)
+
+-- a code has at most two bytes, and fits 16 bits
+pub code-small : (t : Bool) → (codeWidth t ≤ 2) × (256 ^ codeWidth t ≤ 65536)
+code-small true = (omega arith, omega arith)
+code-small false = (omega arith, omega arith)

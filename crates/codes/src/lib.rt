@@ -1,5 +1,6 @@
 ghost use mathlib.Core.Path.{_≡_};
 ghost use mathlib.Core.Bool.{true, false};
+ghost use Rattle.format.specs.Edition.{codeWidth};
 ghost use Rattle.codes.specs.Fields.{fieldOf};
 
 // The kind of a variable's cells.
@@ -105,4 +106,11 @@ pub fn field_of(tagged: bool, code: u16) -> Field
     } else {
         untagged_field(code)
     }
+}
+
+// How many bytes a type code has.
+pub fn code_width(tagged: bool) -> usize
+    ensures { λ r. ⌜ r ≡ codeWidth tagged ⌝ }
+{
+    if tagged { 2 } else { 1 }
 }

@@ -1,3 +1,1 @@
-pub mod SeqLaws
-pub mod WalkSteps
 pub mod BlockLaws

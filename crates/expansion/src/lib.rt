@@ -1,34 +1,14 @@
 use section::Step;
 ghost use mathlib.Core.Path.{_≡_};
-ghost use mathlib.Core.List.{[]};
-ghost use mathlib.Core.Bool.{cond, not, _&&_};
+ghost use mathlib.Core.Bool.{not, _&&_};
 ghost use Prim.Native.Nat.{_<_, _≤_};
 ghost use lib.ListN.{length, getD};
 ghost use lib.Dec.{eqb};
 ghost use Rattle.format.specs.Number.{orderBy};
-ghost use Rattle.format.specs.Grammar.{tag};
 ghost use Rattle.format.specs.Edition.{kindWidth};
 ghost use Rattle.format.specs.Expansion.{expansionNext, expansion, expansions};
 ghost use Rattle.section.specs.Judged.{Judged};
 ghost use Rattle.expansion.specs.Parts.{contentsOf, blocks, blocksTail};
-
-// The tag `t` where `there`, else no bytes; refused with `c`.
-fn tag_if(f: &[u8], p: usize, t: &[u8], c: u8, there: bool) -> Step
-    requires { ⌜ p ≤ length (now f) ⌝ }
-    ensures { λ r. ⌜ Judged (tag (cond there (now (t .entry)) []) c) (now (f .entry)) p r ⌝ }
-{
-    if there {
-        let a = text::tag_at(f, p, t, c);
-        if a != 0 {
-            return Step { code: a, at: p };
-        }
-        return Step {
-            code: 0,
-            at: p + t.len(),
-        };
-    }
-    Step { code: 0, at: p }
-}
 
 // Whether a characteristic, or a block whose type is not 0, is next.
 fn block_next(f: &[u8], p: usize, tagged: bool) -> bool
@@ -84,7 +64,7 @@ fn block(f: &[u8], p: usize, tagged: bool, msf: bool) -> Step
     requires { ⌜ p ≤ length (now f) ⌝ }
     ensures { λ r. ⌜ Judged (expansion tagged (orderBy msf)) (now (f .entry)) p r ⌝ }
 {
-    let a = tag_if(f, p, b"<ch>", 4, tagged);
+    let a = section::tag_if(f, p, b"<ch>", 4, tagged);
     if a.code != 0 {
         return a;
     }
@@ -92,7 +72,7 @@ fn block(f: &[u8], p: usize, tagged: bool, msf: bool) -> Step
     if s.code != 0 {
         return s;
     }
-    tag_if(f, s.at, b"</ch>", 4, tagged)
+    section::tag_if(f, s.at, b"</ch>", 4, tagged)
 }
 
 // What ends the blocks, and the closing tag.
@@ -100,11 +80,11 @@ fn tail(f: &[u8], p: usize, tagged: bool) -> Step
     requires { ⌜ p ≤ length (now f) ⌝ }
     ensures { λ r. ⌜ Judged (blocksTail tagged) (now (f .entry)) p r ⌝ }
 {
-    let s = tag_if(f, p, b"\0\0\0\0\0", 9, !tagged);
+    let s = section::tag_if(f, p, b"\0\0\0\0\0", 9, !tagged);
     if s.code != 0 {
         return s;
     }
-    tag_if(f, s.at, b"</characteristics>", 4, tagged)
+    section::tag_if(f, s.at, b"</characteristics>", 4, tagged)
 }
 
 // The blocks, and what follows them.
@@ -116,10 +96,7 @@ fn block_list(f: &[u8], p: usize, tagged: bool, msf: bool) -> Step
     while block_next(f, q, tagged) {
         let s = block(f, q, tagged, msf);
         if s.code != 0 {
-            return Step {
-                code: s.code,
-                at: p,
-            };
+            return s;
         }
         q = s.at;
     }
@@ -131,7 +108,7 @@ pub fn expansion_list(f: &[u8], p: usize, tagged: bool, msf: bool) -> Step
     requires { ⌜ p ≤ length (now f) ⌝ }
     ensures { λ r. ⌜ Judged (expansions tagged (orderBy msf)) (now (f .entry)) p r ⌝ }
 {
-    let a = tag_if(f, p, b"<characteristics>", 4, tagged);
+    let a = section::tag_if(f, p, b"<characteristics>", 4, tagged);
     if a.code != 0 {
         return a;
     }

@@ -108,7 +108,7 @@ pub and-right : (a b : Bool) → (a && b) ≡ true → b ≡ true
 and-right true b h = h
 and-right false b h = absurd (true≢false (sym h))
 
-text-length : (w : ℕ) (t : List ℕ) → length (textSlots w t) ≡ w
+pub text-length : (w : ℕ) (t : List ℕ) → length (textSlots w t) ≡ w
 text-length zero t = refl
 text-length (suc w) [] = ap suc (length-replicate w (spare 0))
 text-length (suc w) (c ∷ t) = ap suc (text-length w t)

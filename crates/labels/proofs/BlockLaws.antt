@@ -1,37 +1,26 @@
--- Laws of label blocks: from part to part, and the answer of each step.
-use mathlib.Core.Path.{_≡_, refl, sym, ap, _∙_}
+-- Laws of label blocks.
+use mathlib.Core.Path.{_≡_, refl, sym, ap, _∙_, subst}
 use Prim.Native.Nat.{ℕ, _+_, _≤_, _<_}
 use native.Mathlib.Omega.{arith}
-use mathlib.Core.Bool.{Bool, true, not, _||_}
+use native.Mathlib.Nat.{add-zero}
+use mathlib.Core.Bool.{Bool, true, false, not, _||_}
 use mathlib.Core.List.{List}
-use lib.ListN.{length}
+use lib.ListN.{length, getD}
 use lib.Dec.{eqb}
-use borrow.Author.Tests.{eq-eqb, ne-eqb, lt-leb}
+use borrow.Author.Tests.{eq-eqb, ne-eqb, eqb-true, ltb-true, lt-leb}
 use Rattle.format.specs.Number.{Order, num}
-use Rattle.format.specs.Grammar.{Sect, also, unless, next, textAt, seq, tag}
-use Rattle.format.specs.Edition.{opening, closing, n-lbl}
+use Rattle.format.specs.Grammar.{Sect, also, unless, next, textAt, seq, tag, done}
+use Rattle.format.specs.Edition.{opening, closing, n-lbl, n-value-labels}
 use Rattle.format.specs.Variables.{name}
-use Rattle.format.specs.Labels.{Table, LabelBlock, tableHead, tableBody, table, blockHead, block}
-use Rattle.format.proofs.Good.{need-fits}
-use Rattle.format.proofs.StepLaws.{stop, on}
+use Rattle.format.specs.Labels.{Table, table, tableHead, tableBody, blockHead, block, blockNext, blocks}
+use Rattle.format.proofs.Good.{need-fits, and-left}
 use Rattle.section.specs.declared.Step.{Step}
 use Rattle.section.specs.Judged.{Judged}
-use Rattle.section.proofs.ListLaws.{field-judge}
-use Rattle.section.proofs.StepLaws.{refused, tag-room}
-
--- from a part that was judged to what follows it: v is the answer of the parts from p on
-module _ {A B : Type 0} (S : Sect A) (T : A → Sect B) (f : List ℕ) {v p : ℕ} (here : v ≡ seq S T .judge f p) {r : Step} (J : Judged S f p r) where
-  pub part-refused : (r .code ≡ 0 → ⊥) → r .code ≡ v
-  part-refused n = sym (stop S T f here (r .code) (J .code) n)
-
-  pub part-passed : r .code ≡ 0 → v ≡ T (S .read f p) .judge f (r .at)
-  part-passed z = on S T f here (r .at) (sym z ∙ J .code) (J .ends z)
-
--- a tag
-module _ (l f : List ℕ) (p c : ℕ) (e : c ≡ tag l 4 .judge f p) where
-  pub tag-passed : c ≡ 0 → Judged (tag l 4) f p (record { code = 0; at = p + length l })
-  unfolding tag
-  tag-passed z = record { code = sym z ∙ e; ends = λ y. refl; inside = tag-room l 4 f p (sym e ∙ z) }
+use Rattle.section.proofs.FieldLaws.{field-judge}
+use Rattle.section.proofs.StepLaws.{refused}
+use Rattle.section.proofs.SeqLaws.{seq-on}
+use Rattle.section.proofs.TagLaws.{byte-inside}
+use Rattle.labels.specs.Parts.{fileEnd, blockWalk}
 
 -- the head of a block
 module _ (o : Order) (w : ℕ) (f : List ℕ) (p : ℕ) where
@@ -84,49 +73,27 @@ module _ (t : Bool) (o : Order) (w : ℕ) where
   fromHead = seq (blockHead o w) λ h. fromTable (h .0)
 
   module _ (f : List ℕ) (p : ℕ) where
-    pub block-judge : block t o w .judge f p ≡ seq (tag (opening t n-lbl) 4) (λ a. fromHead) .judge f p
-    unfolding block
-    block-judge = refl
+    pub block-told : (r : Step) → Judged (seq (tag (opening t n-lbl) 4) λ a. fromHead) f p r → Judged (block t o w) f p r
+    unfolding block blockHead name table tableHead tableBody tag
+    block-told r j = record { code = j .code; ends = j .ends; inside = j .inside }
 
-    pub block-next : (p1 p2 p3 p4 n : ℕ) → p1 ≡ next (tag (opening t n-lbl) 4) f p → p2 ≡ next (blockHead o w) f p1
-        → p3 ≡ next (table o n) f p2 → p4 ≡ next (tag (closing t n-lbl) 4) f p3 → p4 ≡ next (block t o w) f p
-    unfolding block blockHead name tag table tableHead tableBody
-    block-next p1 p2 p3 p4 n e1 e2 e3 e4 = rw (e4, e3, e2, e1) (omega arith)
+    -- the head is right: the table of the length that it says decides, and what follows it
+    pub head-on : (h : Step) → Judged (blockHead o w) f p h → h .code ≡ 0 → (n : ℕ) → n ≡ num o 4 f p → (r : Step) → Judged (fromTable n) f (h .at) r → Judged fromHead f p r
+    head-on h j z n e r k =
+        seq-on (blockHead o w) (λ x. fromTable (x .0)) f p h j z r (subst (λ (x : ℕ). Judged (fromTable x) f (h .at) r) (e ∙ sym (head-says o w f p)) k)
 
-    abbrev B : Sect LabelBlock
-    B = block t o w
+    pub list-told : (r : Step) → Judged (seq (tag (opening t n-value-labels) 4) λ a. blockWalk t o w) f p r → Judged (blocks t o w (done 13)) f p r
+    unfolding blocks tag
+    list-told r j = record { code = j .code; ends = j .ends; inside = j .inside }
 
-    module _ (b : p ≤ length f) {a : Step} (A : Judged (tag (opening t n-lbl) 4) f p a) where
-      pub opening-refused : (a .code ≡ 0 → ⊥) → Judged B f p (record { code = a .code; at = p })
-      opening-refused n = refused B f p (a .code) (part-refused (tag (opening t n-lbl) 4) (λ u. fromHead) f block-judge A n) n b
+-- a block that is next is in the file
+pub next-inside : (t : Bool) (f : List ℕ) (p : ℕ) → blockNext t f p ≡ true → p < length f
+next-inside true f p h = byte-inside 60 f p (eqb-true (getD f p 0) 60 (and-left (eqb (getD f p 0) 60) _ h)) (λ y. (let z : _≡_ {A = ℕ} 60 0 = y in omega arith))
+next-inside false f p h = ltb-true p (length f) h
 
-      module _ (za : a .code ≡ 0) {h : Step} (H : Judged (blockHead o w) f (a .at) h) where
-        at-head : B .judge f p ≡ fromHead .judge f (a .at)
-        at-head = part-passed (tag (opening t n-lbl) 4) (λ u. fromHead) f block-judge A za
+-- the end of the file
+pub end-wrong : (f : List ℕ) (p q : ℕ) → q ≤ length f → (p ≡ length f → ⊥) → Judged (done 13) f p (record { code = 13; at = q })
+end-wrong f p q b n = record { code = rw (ne-eqb p (length f) n); ends = λ z. absurd (let y : _≡_ {A = ℕ} 13 0 = z in omega arith); inside = b }
 
-        pub head-refused : (h .code ≡ 0 → ⊥) → Judged B f p (record { code = h .code; at = p })
-        head-refused n = refused B f p (h .code) (part-refused (blockHead o w) (λ x. fromTable (x .0)) f at-head H n) n b
-
-        module _ (zh : h .code ≡ 0) {k : ℕ} (e : k ≡ num o 4 f (a .at)) {s : Step} (S : Judged (table o k) f (h .at) s) where
-          at-table : B .judge f p ≡ fromTable k .judge f (h .at)
-          at-table =
-              part-passed (blockHead o w) (λ x. fromTable (x .0)) f at-head H zh
-              ∙ ap (λ (x : ℕ). fromTable x .judge f (h .at)) (head-says o w f (a .at) ∙ sym e)
-
-          pub inner-refused : (s .code ≡ 0 → ⊥) → Judged B f p (record { code = s .code; at = p })
-          inner-refused n = refused B f p (s .code) (part-refused (table o k) (λ x. tag (closing t n-lbl) 4) f at-table S n) n b
-
-          module _ (zs : s .code ≡ 0) {c : Step} (C : Judged (tag (closing t n-lbl) 4) f (s .at) c) where
-            last : c .code ≡ B .judge f p
-            last = C .code ∙ sym (part-passed (table o k) (λ x. tag (closing t n-lbl) 4) f at-table S zs)
-
-            pub closing-refused : (c .code ≡ 0 → ⊥) → Judged B f p (record { code = c .code; at = p })
-            closing-refused n = refused B f p (c .code) last n b
-
-            pub block-accepted : c .code ≡ 0 → Judged B f p (record { code = 0; at = c .at })
-            block-accepted z =
-                record {
-                  code = sym z ∙ last;
-                  ends = λ y. block-next (a .at) (h .at) (s .at) (c .at) k (A .ends za) (H .ends zh) (S .ends zs) (C .ends z);
-                  inside = C .inside;
-                }
+pub end-right : (f : List ℕ) (p : ℕ) → p ≡ length f → (r : Step) → r .code ≡ 0 → r .at ≡ p → Judged (done 13) f p r
+end-right f p e r z a = record { code = rw (eq-eqb p (length f) e) z; ends = λ y. rw a (sym (add-zero p)); inside = omega arith }

@@ -1,11 +1,12 @@
+use section::Step;
 ghost use mathlib.Core.Path.{_≡_};
 ghost use Prim.Native.Nat.{ℕ, _+_, _*_, _<_, _≤_};
 ghost use lib.ListN.{length, getD};
 ghost use Rattle.format.specs.Number.{orderBy};
-ghost use Rattle.format.specs.Grammar.{Sect, number, tag, readTimes, allBelow, pastZero};
-ghost use Rattle.format.specs.Edition.{opening, closing, n-lbl};
-ghost use Rattle.format.specs.Labels.{signed, ascending, tableSizes, tableBody, table, blockHead, block};
+ghost use Rattle.format.specs.Grammar.{Sect, number, done, readTimes, allBelow, pastZero};
+ghost use Rattle.format.specs.Labels.{signed, ascending, tableSizes, tableBody, table, blockHead, block, blockNext, blocks};
 ghost use Rattle.section.specs.Judged.{Judged};
+ghost use Rattle.labels.specs.Parts.{fileEnd, blockWalk};
 
 // One past the last zero of the `n` bytes at `t`, or 0.
 fn past_zero(f: &[u8], t: usize, n: usize) -> usize
@@ -99,121 +100,124 @@ fn table_body(f: &[u8], q: usize, n: usize, m: usize, msf: bool) -> u8
 }
 
 // A label table of `w` bytes at `p`.
-pub fn label_table(f: &[u8], p: usize, w: usize, msf: bool) -> section::Step
+pub fn label_table(f: &[u8], p: usize, w: usize, msf: bool) -> Step
     requires { ⌜ p ≤ length (now f) ⌝ }
     ensures { λ r. ⌜ Judged (table (orderBy msf) w) (now (f .entry)) p r ⌝ }
 {
     if f.len() - p < w {
-        return section::Step { code: 3, at: p };
+        return Step { code: 3, at: p };
     }
     if w < 8 {
-        return section::Step { code: 12, at: p };
+        return Step { code: 12, at: p };
     }
     let n = number::number(f, p, 4, msf) as usize;
     let m = number::number(f, p + 4, 4, msf) as usize;
     if sizes_hold(w, n, m) {
         let c = table_body(f, p + 8, n, m, msf);
         if c != 0 {
-            return section::Step { code: c, at: p };
+            return Step { code: c, at: p };
         }
-        return section::Step { code: 0, at: p + w };
+        return Step { code: 0, at: p + w };
     }
-    section::Step { code: 12, at: p }
-}
-
-// The bytes `t` at `p`.
-fn tag_step(f: &[u8], p: usize, t: &[u8]) -> section::Step
-    requires { ⌜ p ≤ length (now f) ⌝ }
-    ensures { λ r. ⌜ Judged (tag (now (t .entry)) 4) (now (f .entry)) p r ⌝ }
-{
-    let c = text::tag_at(f, p, t, 4);
-    if c != 0 {
-        return section::Step { code: c, at: p };
-    }
-    section::Step {
-        code: 0,
-        at: p + t.len(),
-    }
-}
-
-// A block's opening tag at `p`, in an edition with tags.
-fn block_opens(f: &[u8], p: usize, tagged: bool) -> section::Step
-    requires { ⌜ p ≤ length (now f) ⌝ }
-    ensures { λ r. ⌜ Judged (tag (opening tagged n-lbl) 4) (now (f .entry)) p r ⌝ }
-{
-    if tagged {
-        tag_step(f, p, b"<lbl>")
-    } else {
-        tag_step(f, p, b"")
-    }
-}
-
-// Its closing tag.
-fn block_closes(f: &[u8], p: usize, tagged: bool) -> section::Step
-    requires { ⌜ p ≤ length (now f) ⌝ }
-    ensures { λ r. ⌜ Judged (tag (closing tagged n-lbl) 4) (now (f .entry)) p r ⌝ }
-{
-    if tagged {
-        tag_step(f, p, b"</lbl>")
-    } else {
-        tag_step(f, p, b"")
-    }
+    Step { code: 12, at: p }
 }
 
 // Table length, name in `w` bytes and padding at `p`.
-fn block_head(f: &[u8], p: usize, w: usize, msf: bool) -> section::Step
+fn block_head(f: &[u8], p: usize, w: usize, msf: bool) -> Step
     requires { ⌜ (p ≤ length (now f)) × (w ≤ 65535) ⌝ }
     ensures { λ r. ⌜ Judged (blockHead (orderBy msf) w) (now (f .entry)) p r ⌝ }
 {
     if f.len() - p < 4 + (w + 3) {
-        return section::Step { code: 3, at: p };
+        return Step { code: 3, at: p };
     }
     let n = text::text_len(f, p + 4, w);
     if n == w {
-        return section::Step { code: 7, at: p };
+        return Step { code: 7, at: p };
     }
     if n == 0 {
-        return section::Step { code: 7, at: p };
+        return Step { code: 7, at: p };
     }
-    section::Step {
+    Step {
         code: 0,
         at: p + (4 + (w + 3)),
     }
 }
 
 // A label block at `p`, with its name in `w` bytes.
-pub fn label_block(f: &[u8], p: usize, tagged: bool, w: usize, msf: bool) -> section::Step
+pub fn label_block(f: &[u8], p: usize, tagged: bool, w: usize, msf: bool) -> Step
     requires { ⌜ (p ≤ length (now f)) × (w ≤ 65535) ⌝ }
     ensures { λ r. ⌜ Judged (block tagged (orderBy msf) w) (now (f .entry)) p r ⌝ }
 {
-    let a = block_opens(f, p, tagged);
+    let a = section::tag_if(f, p, b"<lbl>", 4, tagged);
     if a.code != 0 {
-        return section::Step {
-            code: a.code,
-            at: p,
-        };
+        return a;
     }
     let h = block_head(f, a.at, w, msf);
     if h.code != 0 {
-        return section::Step {
-            code: h.code,
-            at: p,
-        };
+        return h;
     }
     let n = number::number(f, a.at, 4, msf) as usize;
     let t = label_table(f, h.at, n, msf);
     if t.code != 0 {
-        return section::Step {
-            code: t.code,
-            at: p,
-        };
+        return t;
     }
-    let e = block_closes(f, t.at, tagged);
-    if e.code != 0 {
-        return section::Step {
-            code: e.code,
-            at: p,
-        };
+    section::tag_if(f, t.at, b"</lbl>", 4, tagged)
+}
+
+// Whether a label block is next at `p`.
+fn block_next(f: &[u8], p: usize, tagged: bool) -> bool
+    requires { ⌜ p ≤ length (now f) ⌝ }
+    ensures { λ r. ⌜ r ≡ blockNext tagged (now (f .entry)) p ⌝ }
+{
+    if tagged {
+        return text::tag_at(f, p, b"<lbl>", 4) == 0;
     }
-    section::Step { code: 0, at: e.at }
+    p < f.len()
+}
+
+// The closing tags, and the end of the file.
+fn file_end(f: &[u8], p: usize, tagged: bool) -> Step
+    requires { ⌜ p ≤ length (now f) ⌝ }
+    ensures { λ r. ⌜ Judged (fileEnd tagged) (now (f .entry)) p r ⌝ }
+{
+    let a = section::tag_if(f, p, b"</value_labels>", 4, tagged);
+    if a.code != 0 {
+        return a;
+    }
+    let b = section::tag_if(f, a.at, b"</stata_dta>", 4, tagged);
+    if b.code != 0 {
+        return b;
+    }
+    if b.at != f.len() {
+        return Step { code: 13, at: p };
+    }
+    b
+}
+
+// The label blocks, and what follows them.
+fn block_list(f: &[u8], p: usize, tagged: bool, w: usize, msf: bool) -> Step
+    requires { ⌜ (p ≤ length (now f)) × (w ≤ 65535) ⌝ }
+    ensures { λ r. ⌜ Judged (blockWalk tagged (orderBy msf) w) (now (f .entry)) p r ⌝ }
+{
+    let mut q = p;
+    while block_next(f, q, tagged) {
+        let s = label_block(f, q, tagged, w, msf);
+        if s.code != 0 {
+            return s;
+        }
+        q = s.at;
+    }
+    file_end(f, q, tagged)
+}
+
+// The label blocks, up to the end of the file.
+pub fn label_list(f: &[u8], p: usize, tagged: bool, w: usize, msf: bool) -> Step
+    requires { ⌜ (p ≤ length (now f)) × (w ≤ 65535) ⌝ }
+    ensures { λ r. ⌜ Judged (blocks tagged (orderBy msf) w (done 13)) (now (f .entry)) p r ⌝ }
+{
+    let a = section::tag_if(f, p, b"<value_labels>", 4, tagged);
+    if a.code != 0 {
+        return a;
+    }
+    block_list(f, a.at, tagged, w, msf)
 }

@@ -1,4 +1,3 @@
-pub mod ListLaws
-pub mod PartLaws
 pub mod TypeLaws
 pub mod SortLaws
+pub mod WholeLaws

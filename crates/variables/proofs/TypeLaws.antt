@@ -25,11 +25,6 @@ known-type t c = go (hasType t (typeBy t c)) refl
 pub kind-known : (t : Bool) (c : ℕ) (k : Kind) (x : Field) → x ≡ fieldOf t c → x .kind ≡ k → known k ≡ hasType t (typeBy t c)
 kind-known t c k x e h = ap known (sym h) ∙ ap (λ (y : Field). known (y .kind)) e ∙ known-type t c
 
--- a code has at most two bytes, and fits 16 bits
-pub width-small : (t : Bool) → (codeWidth t ≤ 2) × (256 ^ codeWidth t ≤ 65536)
-width-small true = (omega arith, omega arith)
-width-small false = (omega arith, omega arith)
-
 -- its size
 pub code-size : (t : Bool) (o : Order) (x : VarType) → typeCode t o .size x ≡ codeWidth t
 unfolding typeCode

@@ -5,52 +5,10 @@ ghost use Prim.Native.Nat.{suc, _+_, _*_, _≤_};
 ghost use mathlib.Core.List.{[]};
 ghost use lib.ListN.{length};
 ghost use Rattle.format.specs.Number.{orderBy};
-ghost use Rattle.format.specs.Grammar.{also, need, tag, within, ruled, ended, times, judgeTimes, between};
+ghost use Rattle.format.specs.Grammar.{ruled, ended, judgeTimes};
 ghost use Rattle.format.specs.Edition.{codeWidth};
-ghost use Rattle.format.specs.Variables.{typeBy, hasType, typeCode, fresh};
+ghost use Rattle.format.specs.Variables.{typeBy, hasType, typeCode, types, fresh, sortList};
 ghost use Rattle.section.specs.Judged.{Judged};
-ghost use Rattle.variables.specs.Closed.{Closed};
-
-// The refusal of the first tag and of the `n` bytes after it, 0 where they are right.
-fn opened(f: &[u8], p: usize, first: &[u8], n: usize) -> u8
-    requires { ⌜ p ≤ length (now f) ⌝ }
-    ensures { λ r. ⌜ r ≡ also (tag (now (first .entry)) 4 .judge (now (f .entry)) p) (need n (now (f .entry)) (p + length (now (first .entry)))) ⌝ }
-{
-    let a = text::tag_at(f, p, first, 4);
-    if a != 0 {
-        return a;
-    }
-    if f.len() - (p + first.len()) < n {
-        3
-    } else {
-        0
-    }
-}
-
-// The answer of the section at `p` whose content, up to `e`, has the refusal `b`, 0 where it is right.
-fn closed(f: &[u8], p: usize, e: usize, b: u8, last: &[u8]) -> Step
-    requires { ⌜ (p ≤ length (now f)) × (e ≤ length (now f)) ⌝ }
-    ensures { λ r. ⌜ Closed (now (last .entry)) (now (f .entry)) e b r ⌝ }
-{
-    if b != 0 {
-        return Step { code: b, at: p };
-    }
-    let c = text::tag_at(f, e, last, 4);
-    if c != 0 {
-        return Step { code: c, at: p };
-    }
-    Step {
-        code: 0,
-        at: e + last.len(),
-    }
-}
-
-// How many bytes a type code has.
-fn code_width(tagged: bool) -> usize
-    ensures { λ r. ⌜ r ≡ codeWidth tagged ⌝ }
-{
-    if tagged { 2 } else { 1 }
-}
 
 // Whether the edition knows the code.
 fn known_code(tagged: bool, code: u16) -> bool
@@ -75,7 +33,7 @@ fn type_codes(f: &[u8], p: usize, k: usize, tagged: bool, msf: bool) -> u8
     requires { ⌜ p + k * codeWidth tagged ≤ length (now f) ⌝ }
     ensures { λ r. ⌜ r ≡ judgeTimes (typeCode tagged (orderBy msf)) k (now (f .entry)) p ⌝ }
 {
-    let w = code_width(tagged);
+    let w = codes::code_width(tagged);
     let mut q = p;
     let mut i: usize = 0;
     while i < k {
@@ -90,27 +48,18 @@ fn type_codes(f: &[u8], p: usize, k: usize, tagged: bool, msf: bool) -> u8
     0
 }
 
-// The types of `k` variables between the tags `first` and `last`.
-pub fn type_list(
-    f: &[u8],
-    p: usize,
-    first: &[u8],
-    last: &[u8],
-    k: usize,
-    tagged: bool,
-    msf: bool,
-) -> Step
+// The types of `k` variables.
+pub fn type_list(f: &[u8], p: usize, k: usize, tagged: bool, msf: bool) -> Step
     requires { ⌜ (p ≤ length (now f)) × (k ≤ 32767) ⌝ }
-    ensures { λ r. ⌜ Judged (between (now (first .entry)) (now (last .entry)) (within (k * codeWidth tagged) (times (typeCode tagged (orderBy msf)) k))) (now (f .entry)) p r ⌝ }
+    ensures { λ r. ⌜ Judged (types tagged (orderBy msf) k) (now (f .entry)) p r ⌝ }
 {
-    let n = k * code_width(tagged);
-    let a = opened(f, p, first, n);
-    if a != 0 {
-        return Step { code: a, at: p };
+    let n = k * codes::code_width(tagged);
+    let a = section::opened(f, p, b"<variable_types>", tagged, n);
+    if a.code != 0 {
+        return a;
     }
-    let q = p + first.len();
-    let b = type_codes(f, q, k, tagged, msf);
-    closed(f, p, q + n, b, last)
+    let b = type_codes(f, a.at, k, tagged, msf);
+    section::closed(f, a.at + n, b, b"</variable_types>", tagged)
 }
 
 // The refusal of the sort list of `k` variables at `p`: one pass, with a mark for each variable that was seen.
@@ -139,17 +88,16 @@ fn sort_numbers(f: &[u8], p: usize, k: usize, msf: bool) -> u8
     8
 }
 
-// The sort list of `k` variables between the tags `first` and `last`.
-pub fn sort_list(f: &[u8], p: usize, first: &[u8], last: &[u8], k: usize, msf: bool) -> Step
+// The sort list of `k` variables.
+pub fn sort_list(f: &[u8], p: usize, k: usize, tagged: bool, msf: bool) -> Step
     requires { ⌜ (p ≤ length (now f)) × (k ≤ 32767) ⌝ }
-    ensures { λ r. ⌜ Judged (between (now (first .entry)) (now (last .entry)) (within (suc k * 2) (ruled (ended (orderBy msf) 2 (suc k) 8) (fresh k []) 8))) (now (f .entry)) p r ⌝ }
+    ensures { λ r. ⌜ Judged (sortList tagged (orderBy msf) k) (now (f .entry)) p r ⌝ }
 {
     let n = (k + 1) * 2;
-    let a = opened(f, p, first, n);
-    if a != 0 {
-        return Step { code: a, at: p };
+    let a = section::opened(f, p, b"<sortlist>", tagged, n);
+    if a.code != 0 {
+        return a;
     }
-    let q = p + first.len();
-    let b = sort_numbers(f, q, k, msf);
-    closed(f, p, q + n, b, last)
+    let b = sort_numbers(f, a.at, k, msf);
+    section::closed(f, a.at + n, b, b"</sortlist>", tagged)
 }

@@ -3,15 +3,16 @@ use Rattle.format.specs.Grammar.{tag}
 use Rattle.format.specs.Edition.{opening, closing, n-ch}
 use Rattle.format.specs.Expansion.{expansionHead, expansionBody}
 use Rattle.expansion.specs.Parts.{contentsOf}
-use Rattle.expansion.proofs.SeqLaws.{seq-refused, seq-on, regroup}
-use Rattle.expansion.proofs.BlockLaws.{opening-by, closing-by, tag-by, blockRest, block-told}
+use Rattle.section.proofs.SeqLaws.{seq-refused, seq-on, regroup}
+use Rattle.expansion.proofs.BlockLaws.{blockRest, block-told}
+use Rattle.section.proofs.TagLaws.{opening-by, closing-by, tag-by}
 use borrow.Author.Needs.{needs}
 use Rattle.expansion.proofs.block.Statement.{statement}
 use Rattle.expansion.proofs.block.Tie as tie
 use Rattle.expansion.proofs.block.Reads as reads
 use Rattle.expansion.proofs.block.Lts as lts
 use Rattle.expansion.proofs.contents.Reads as contents-reads
-use Rattle.expansion.proofs.tag_if.Reads as tag-if-reads
+use Rattle.section.proofs.tag_if.Reads as tag-if-reads
 
 -- src/lib.rt:87:26
 slice-aggregate-tag-if : tie.Need-slice-aggregate-tag-if

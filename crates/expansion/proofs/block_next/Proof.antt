@@ -6,7 +6,7 @@ use lib.ListN.{getD, List·getD-eq-default}
 use lib.Dec.{eqb}
 use Rattle.format.specs.Edition.{opening, n-ch}
 use Rattle.format.specs.Expansion.{expansionNext}
-use Rattle.expansion.proofs.BlockLaws.{tag-same}
+use Rattle.section.proofs.TagLaws.{tag-same}
 use borrow.Author.Needs.{needs}
 use Rattle.expansion.proofs.block_next.Statement.{statement}
 use Rattle.expansion.proofs.block_next.Tie as tie

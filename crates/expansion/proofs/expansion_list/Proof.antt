@@ -2,15 +2,16 @@ use Rattle.format.specs.Number.{orderBy}
 use Rattle.format.specs.Grammar.{tag}
 use Rattle.format.specs.Edition.{opening, n-characteristics}
 use Rattle.expansion.specs.Parts.{blocks}
-use Rattle.expansion.proofs.SeqLaws.{seq-refused, seq-on}
-use Rattle.expansion.proofs.BlockLaws.{opening-by, tag-by, list-told}
+use Rattle.section.proofs.SeqLaws.{seq-refused, seq-on}
+use Rattle.expansion.proofs.BlockLaws.{list-told}
+use Rattle.section.proofs.TagLaws.{opening-by, tag-by}
 use borrow.Author.Needs.{needs}
 use Rattle.expansion.proofs.expansion_list.Statement.{statement}
 use Rattle.expansion.proofs.expansion_list.Tie as tie
 use Rattle.expansion.proofs.expansion_list.Reads as reads
 use Rattle.expansion.proofs.expansion_list.Lts as lts
 use Rattle.expansion.proofs.block_list.Reads as block-list-reads
-use Rattle.expansion.proofs.tag_if.Reads as tag-if-reads
+use Rattle.section.proofs.tag_if.Reads as tag-if-reads
 
 -- src/lib.rt:134:26
 slice-aggregate-tag-if : tie.Need-slice-aggregate-tag-if

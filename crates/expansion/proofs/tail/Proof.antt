@@ -1,13 +1,14 @@
 use Rattle.format.specs.Grammar.{tag}
 use Rattle.format.specs.Edition.{blocksEnd, closing, n-characteristics}
-use Rattle.expansion.proofs.SeqLaws.{seq-refused, seq-on}
-use Rattle.expansion.proofs.BlockLaws.{closing-by, end-by, tag-by}
+use Rattle.section.proofs.SeqLaws.{seq-refused, seq-on}
+use Rattle.expansion.proofs.BlockLaws.{end-by}
+use Rattle.section.proofs.TagLaws.{closing-by, tag-by}
 use borrow.Author.Needs.{needs}
 use Rattle.expansion.proofs.tail.Statement.{statement}
 use Rattle.expansion.proofs.tail.Tie as tie
 use Rattle.expansion.proofs.tail.Reads as reads
 use Rattle.expansion.proofs.tail.Lts as lts
-use Rattle.expansion.proofs.tag_if.Reads as tag-if-reads
+use Rattle.section.proofs.tag_if.Reads as tag-if-reads
 
 -- src/lib.rt:103:26
 slice-aggregate-tag-if : tie.Need-slice-aggregate-tag-if

@@ -8,7 +8,8 @@ use lib.ListN.{length}
 use Rattle.format.specs.Grammar.{unless, judgeTimes}
 use Rattle.text.specs.Texts.{IsTextLength}
 use Rattle.section.specs.Judged.{field}
-use Rattle.section.proofs.ListLaws.{field-judge, list-stop, list-turn, list-rest}
+use Rattle.section.proofs.FieldLaws.{field-judge, field-size}
+use Rattle.section.proofs.TimesLaws.{list-stop, list-turn, list-rest}
 use Rattle.section.proofs.texts.Statement.{statement}
 use Rattle.section.proofs.texts.Tie as tie
 use Rattle.section.proofs.texts.Reads as reads
@@ -28,7 +29,7 @@ loop-holds c = (omega arith, rw sub-zero (omega arith), rw sub-zero)
 
 -- src/lib.rt:33:13
 text-len-requires : tie.Need-text-len-requires Inv-loop μ-loop
-text-len-requires c κs = let a = c .before .before .before .args in let l = c .before .loop in omega (arith, list-rest (a .named) (a .f .now) (a .w) (a .k) (l .i) (l .q) (omega arith))
+text-len-requires c κs = let a = c .before .before .before .args in let l = c .before .loop in omega (arith, list-rest (a .k) (l .i) (omega arith) (a .w))
 
 -- src/lib.rt:34:12
 bad-field-requires : tie.Need-bad-field-requires Inv-loop μ-loop
@@ -40,14 +41,14 @@ returns c =
     let a = c .before .before .before .before .before .before .args in
     let l = c .before .before .before .before .loop in
     let t = c .before .before .text-len .ensures in
-    list-stop (a .named) (a .f .now) (a .w) (a .k) (l .i) (l .q) (omega arith)
+    list-stop (a .k) (l .i) (omega arith) (field (a .named) (a .w)) (a .f .now) (l .q)
     (field-judge (a .named) (a .w) (a .f .now) (l .q) (c .before .before .text-len .result) (t .is) (t .short)
     ∙ ap (λ (b : Bool). unless (not b) 7) (sym (c .before .bad-field .ensures) ∙ c .if1 .taken))
     ∙ l .inv .2
 
 -- src/lib.rt:37:9
 add-q : tie.Need-add-q Inv-loop μ-loop
-add-q c = let a = c .before .before .before .before .before .before .args in let l = c .before .before .before .before .loop in omega (arith, list-rest (a .named) (a .f .now) (a .w) (a .k) (l .i) (l .q) (omega arith))
+add-q c = let a = c .before .before .before .before .before .before .args in let l = c .before .before .before .before .loop in omega (arith, list-rest (a .k) (l .i) (omega arith) (a .w))
 
 -- src/lib.rt:38:9
 add-i : tie.Need-add-i Inv-loop μ-loop
@@ -64,8 +65,8 @@ loop-again c =
     let l = c .before .before .before .before .loop in
     let t = c .before .before .text-len .ensures in (
       omega arith,
-      omega (arith, list-rest (a .named) (a .f .now) (a .w) (a .k) (l .i) (l .q) (omega arith)),
-      list-turn (a .named) (a .f .now) (a .w) (a .k) (l .i) (l .q) (omega arith)
+      omega (arith, list-rest (a .k) (l .i) (omega arith) (a .w)),
+      list-turn (a .k) (l .i) (omega arith) (field (a .named) (a .w)) (a .f .now) (l .q) (a .w) (field-size (a .named) (a .w))
           (field-judge (a .named) (a .w) (a .f .now) (l .q) (c .before .before .text-len .result) (t .is) (t .short)
           ∙ ap (λ (b : Bool). unless (not b) 7) (sym (c .before .bad-field .ensures) ∙ c .if1 .left))
           ∙ l .inv .2,

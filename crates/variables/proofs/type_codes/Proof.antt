@@ -10,8 +10,9 @@ use Rattle.format.specs.Number.{orderBy}
 use Rattle.format.specs.Grammar.{unless, judgeTimes}
 use Rattle.format.specs.Edition.{codeWidth}
 use Rattle.format.specs.Variables.{typeCode}
-use Rattle.variables.proofs.ListLaws.{list-rest, list-stop, list-turn}
-use Rattle.variables.proofs.TypeLaws.{width-small, code-size, code-judge}
+use Rattle.section.proofs.TimesLaws.{list-rest, list-stop, list-turn}
+use Rattle.variables.proofs.TypeLaws.{code-size, code-judge}
+use Rattle.codes.proofs.Laws.{code-small}
 use Rattle.variables.proofs.type_codes.Statement.{statement}
 use Rattle.variables.proofs.type_codes.Tie as tie
 
@@ -33,13 +34,13 @@ number-requires c κs =
     let a = c .before .before .before .before .args in
     let l = c .before .loop in
     let e = c .before .before .code-width .ensures in
-    (omega (arith, e, list-rest (a .k) (l .i) (omega arith) (codeWidth (a .tagged))), omega (arith, e, width-small (a .tagged) .0))
+    (omega (arith, e, list-rest (a .k) (l .i) (omega arith) (codeWidth (a .tagged))), omega (arith, e, code-small (a .tagged) .0))
 
 cast-c : tie.Need-cast-c Inv-loop μ-loop
 cast-c c =
     let a = c .before .before .before .before .before .args in
     let h : c .number .result < 256 ^ codeWidth (a .tagged) = rw (c .before .before .before .code-width .ensures) at (c .number .ensures .small) in
-    omega (arith, width-small (a .tagged) .1)
+    omega (arith, code-small (a .tagged) .1)
 
 known-code-requires : tie.Need-known-code-requires Inv-loop μ-loop
 known-code-requires c κs = search needs

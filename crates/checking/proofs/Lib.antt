@@ -1,0 +1,5 @@
+pub mod PlaceLaws
+pub mod DataLaws
+pub mod RestLaws
+pub mod WalkLaws
+pub mod CheckLaws

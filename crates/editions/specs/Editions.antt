@@ -1,0 +1,45 @@
+-- An edition's numbers, as code has them.
+use Prim.Native.Nat.{ℕ}
+use mathlib.Core.Bool.{Bool, cond}
+use lib.Dec.{eqb}
+use Rattle.format.specs.Edition as Format
+use Rattle.format.specs.Edition.{Release, r113, r114, r117}
+use Rattle.editions.specs.declared.Edition.{Edition}
+
+-- the numbers, as the format's definitions have them
+abbrev pub numbersOf : Edition → Format.Edition
+numbersOf e =
+    record {
+      number = e .number;
+      tagged = e .tagged;
+      nWidth = e .«n_width»;
+      labelMax = e .«label_max»;
+      labelLength = e .«label_length»;
+      nameWidth = e .«name_width»;
+      formatWidth = e .«format_width»;
+      varLabelWidth = e .«var_label_width»;
+      vWidth = e .«v_width»;
+      oWidth = e .«o_width»;
+      recordWidth = e .«record_width»;
+    }
+
+-- the edition of a number, 117 where it is none
+abbrev pub releaseBy : ℕ → Release
+releaseBy n = cond (eqb n 113) r113 (cond (eqb n 114) r114 r117)
+
+-- the numbers of an edition, from those in which editions differ
+abbrev pub rowOf : ℕ → Bool → ℕ → Format.Edition
+rowOf n t w =
+    record {
+      number = n;
+      tagged = t;
+      nWidth = 4;
+      labelMax = 80;
+      labelLength = 1;
+      nameWidth = 33;
+      formatWidth = w;
+      varLabelWidth = 81;
+      vWidth = 4;
+      oWidth = 4;
+      recordWidth = 4;
+    }

@@ -1,0 +1,5 @@
+pub mod NumberLaws
+pub mod TextLaws
+pub mod NewLaws
+pub mod OldLaws
+pub mod FileLaws

@@ -1,0 +1,31 @@
+use Rattle.format.specs.Edition.{n-formats}
+use Rattle.lists.proofs.ListLaws.{fields-judged}
+use borrow.Author.Needs.{needs}
+use Rattle.lists.proofs.format_list.Statement.{statement}
+use Rattle.lists.proofs.format_list.Tie as tie
+use Rattle.lists.proofs.format_list.Reads as reads
+use Rattle.lists.proofs.format_list.Lts as lts
+use Rattle.section.proofs.text_list.Reads as text-list-reads
+
+-- src/lib.rt:51:30
+slice-aggregate-text-list : tie.Need-slice-aggregate-text-list
+slice-aggregate-text-list c = search needs
+
+-- src/lib.rt:51:44
+slice-aggregate-text-list-2 : tie.Need-slice-aggregate-text-list-2
+slice-aggregate-text-list-2 c = search needs
+
+-- src/lib.rt:51:5
+text-list-requires : tie.Need-text-list-requires
+text-list-requires c κs = search needs
+
+-- src/lib.rt:47:1
+returns : tie.Need-returns
+returns c =
+    let a = c .before .before .before .before .args in
+    fields-judged (a .tagged) (a .w) (a .k) (a .f .now) (a .p) _ n-formats (c .text-list .ensures)
+
+pub format-list-spec : {M : Type 1} → statement M
+format-list-spec =
+    tie.close
+    (tie.spec slice-aggregate-text-list slice-aggregate-text-list-2 text-list-requires returns)

@@ -1,0 +1,3 @@
+pub mod Readings
+pub mod Ask
+pub mod Fact

@@ -1,0 +1,7 @@
+pub mod RecordLaws
+pub mod WalkLaws
+pub mod TableLaws
+pub mod LinkLaws
+pub mod PassLaws
+pub mod RuleLaws
+pub mod StrlLaws

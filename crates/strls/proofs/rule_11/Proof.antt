@@ -1,0 +1,47 @@
+use mathlib.Core.Path.{sym, ap, _∙_}
+use mathlib.Core.Bool.{Bool, cond}
+use Prim.Native.Nat.{ℕ}
+use lib.ListN.{length-replicate}
+use Rattle.strls.proofs.PassLaws.{end-broken, end-at}
+use Rattle.strls.proofs.rule_11.Statement.{statement}
+use Rattle.strls.proofs.rule_11.Tie as tie
+
+fill-offsets-requires : tie.Need-fill-offsets-requires
+fill-offsets-requires c κs =
+    (c .before .before .pre .0, length-replicate {A = ℕ} 32768 0)
+
+fill-nexts-requires : tie.Need-fill-nexts-requires
+fill-nexts-requires c κs =
+    (c .before .before .before .before .pre .0, length-replicate {A = ℕ} 32768 0)
+
+data-run-requires : tie.Need-data-run-requires
+data-run-requires c κs =
+    (record { framed = c .before .before .before .before .before .before .before .pre .0; offsets = c .before .before .before .before .fill-offsets .ensures; nexts = c .before .before .fill-nexts .ensures }, c .before .before .before .before .before .before .before .pre .1)
+
+returns : tie.Need-returns
+returns c =
+    end-broken (c .before .before .before .before .before .before .before .before .before .before .args .f .now) (c .before .before .before .before .before .before .before .before .before .before .args .d) (c .before .before .before .before .before .before .before .before .before .before .args .start) (c .before .before .data-run .result) (c .before .before .data-run .ensures .is) (c .if1 .taken)
+
+gso-at-requires : tie.Need-gso-at-requires
+gso-at-requires c κs =
+    c .before .before .data-run .ensures .inside
+
+returns-2 : tie.Need-returns-2
+returns-2 c =
+    ap (λ (b : Bool). cond b 11 0) (sym (c .if2 .taken)) ∙ end-at (c .before .before .before .before .before .before .before .before .before .before .before .before .args .f .now) (c .before .before .before .before .before .before .before .before .before .before .before .before .args .d) (c .before .before .before .before .before .before .before .before .before .before .before .before .args .start) (c .before .before .before .before .data-run .result) (c .before .before .before .before .data-run .ensures .is) (c .before .before .if1 .left) (c .before .gso-at .result) (c .before .gso-at .ensures)
+
+returns-3 : tie.Need-returns-3
+returns-3 c =
+    ap (λ (b : Bool). cond b 11 0) (sym (c .if2 .left)) ∙ end-at (c .before .before .before .before .before .before .before .before .before .before .before .before .args .f .now) (c .before .before .before .before .before .before .before .before .before .before .before .before .args .d) (c .before .before .before .before .before .before .before .before .before .before .before .before .args .start) (c .before .before .before .before .data-run .result) (c .before .before .before .before .data-run .ensures .is) (c .before .before .if1 .left) (c .before .gso-at .result) (c .before .gso-at .ensures)
+
+pub rule-11-spec : {M : Type 1} → statement M
+rule-11-spec =
+    tie.close
+    (tie.spec
+    fill-offsets-requires
+    fill-nexts-requires
+    data-run-requires
+    returns
+    gso-at-requires
+    returns-2
+    returns-3)
