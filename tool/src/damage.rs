@@ -50,6 +50,59 @@ impl Source {
         copy.file
     }
 
+    /// A copy damaged in its label tables, long strings and cells. Nothing is moved.
+    pub fn damaged_in_place(&self, random: &mut Random) -> Vec<u8> {
+        const KINDS: [Kind; 18] = [
+            Kind::TableLength,
+            Kind::BlockName,
+            Kind::Entries,
+            Kind::Entries,
+            Kind::TextLength,
+            Kind::Offset,
+            Kind::Offset,
+            Kind::Offset,
+            Kind::Value,
+            Kind::Text,
+            Kind::Text,
+            Kind::StrlV,
+            Kind::StrlO,
+            Kind::RecordV,
+            Kind::RecordO,
+            Kind::RecordKind,
+            Kind::RecordLength,
+            Kind::Cell,
+        ];
+        let mut copy = self.clone();
+        for _ in 0..random.pick(&[1, 1, 2, 3, 5]) {
+            let kind = random.pick(&KINDS);
+            let found = &copy.by_kind[kind as usize];
+            if found.is_empty() {
+                continue;
+            }
+            let index = random.pick(found);
+            if kind == Kind::Entries && random.once_in(2) {
+                copy.shift_entries(index, random);
+            } else {
+                copy.change_part_at(index, random);
+            }
+        }
+        copy.file
+    }
+
+    /// Entries more or fewer, in a table as long as it says.
+    fn shift_entries(&mut self, index: usize, random: &mut Random) {
+        let (entries, text) = (self.parts[index], self.parts[index + 1]);
+        let (n, length) = (self.number(entries), self.number(text));
+        let by = random.between(1, 3) as u64;
+        if n >= by && random.once_in(2) {
+            self.store_number(entries, n - by);
+            self.store_number(text, length + 8 * by);
+        } else if length >= 8 * by {
+            self.store_number(entries, n + by);
+            self.store_number(text, length - 8 * by);
+        }
+    }
+
     fn damage(&mut self, random: &mut Random) {
         match random.below(20) {
             0 | 1 => self.change_byte(random),
@@ -358,6 +411,10 @@ impl Source {
 
     fn change_part(&mut self, random: &mut Random) {
         let index = self.any_part(random);
+        self.change_part_at(index, random);
+    }
+
+    fn change_part_at(&mut self, index: usize, random: &mut Random) {
         let part = self.parts[index];
         // An earlier damage may have left nothing of it.
         if part.start == part.end || part.start >= self.file.len() {

@@ -41,28 +41,97 @@ impl Order {
 
 /// An accepted file of any edition, in either byte order.
 pub fn file(random: &mut Random) -> Vec<u8> {
-    let edition = random.pick(&[113, 114, 117, 117]);
-    let order = random.pick(&[Order::Msf, Order::Lsf]);
-    file_of(random, edition, order)
+    made(random).file
 }
 
 /// An accepted file of that edition, in that byte order.
 pub fn file_of(random: &mut Random, edition: u8, order: Order) -> Vec<u8> {
+    made_of(random, edition, order).file
+}
+
+/// As `file`, with the dataset.
+pub fn made(random: &mut Random) -> Made {
+    let edition = random.pick(&[113, 114, 117, 117]);
+    let order = random.pick(&[Order::Msf, Order::Lsf]);
+    made_of(random, edition, order)
+}
+
+/// As `file_of`, with the dataset.
+pub fn made_of(random: &mut Random, edition: u8, order: Order) -> Made {
     let k = variables(random);
     let n = if k == 0 { 0 } else { observations(random) };
-    let types = (0..k).map(|_| type_of(random, edition, n)).collect();
-    let maker = Maker {
+    let dataset = Dataset {
+        types: (0..k).map(|_| type_of(random, edition, n)).collect(),
+        n,
+        ..Dataset::default()
+    };
+    let mut maker = Maker {
         random,
         edition,
         order,
-        types,
-        n,
+        dataset,
         file: Vec::new(),
     };
+    maker.choose_blocks();
     match edition {
         117 => maker.tagged(),
         _ => maker.old(),
     }
+    Made {
+        file: maker.file,
+        dataset: maker.dataset,
+    }
+}
+
+/// A file and what it holds.
+pub struct Made {
+    pub file: Vec<u8>,
+    pub dataset: Dataset,
+}
+
+/// Texts are without their zero.
+#[derive(Default)]
+pub struct Dataset {
+    pub n: usize,
+    pub label: Vec<u8>,
+    pub stamp: Vec<u8>,
+    pub types: Vec<Type>,
+    pub names: Vec<Vec<u8>>,
+    /// The variables of the sort list.
+    pub sorted: Vec<u64>,
+    pub formats: Vec<Vec<u8>>,
+    pub sets: Vec<Vec<u8>>,
+    pub labels: Vec<Vec<u8>>,
+    /// In data order.
+    pub cells: Vec<Cell>,
+    pub records: Vec<Record>,
+    pub blocks: Vec<Block>,
+}
+
+pub enum Cell {
+    /// A whole number, or a letter by its code as a long.
+    Seeks(i32),
+    /// A number that isn't whole or not of the long's range.
+    SeeksNothing,
+    /// Any bytes.
+    Any,
+    Text(Vec<u8>),
+    Reference(Reference),
+}
+
+/// A strL cell, by its variable and observation.
+pub type Reference = (u64, u64);
+
+pub struct Record {
+    pub cell: Reference,
+    pub kind: u8,
+    pub contents: Vec<u8>,
+}
+
+pub struct Block {
+    pub name: Vec<u8>,
+    /// Values ascend.
+    pub entries: Vec<(i32, Vec<u8>)>,
 }
 
 fn variables(random: &mut Random) -> usize {
@@ -81,8 +150,8 @@ fn observations(random: &mut Random) -> usize {
     }
 }
 
-#[derive(Clone, Copy)]
-enum Type {
+#[derive(Clone, Copy, Debug, PartialEq, Eq)]
+pub enum Type {
     Strl,
     Text(usize),
     Double,
@@ -113,7 +182,7 @@ fn text_width(random: &mut Random, edition: u8, n: usize) -> usize {
 }
 
 impl Type {
-    fn width(self) -> usize {
+    pub fn width(self) -> usize {
         match self {
             Type::Strl | Type::Double => 8,
             Type::Text(width) => width,
@@ -148,21 +217,30 @@ impl Type {
     }
 }
 
-/// A strL cell, by its variable and observation.
-type Cell = (u64, u64);
+/// Numbers that aren't whole or not of the long's range.
+const SEEK_NOTHING: [f64; 9] = [
+    9.7,
+    0.5,
+    -1e-30,
+    2_147_483_621.0,
+    2_147_483_622.0,
+    2_147_483_647.0,
+    2_147_483_648.0,
+    -2_147_483_648.0,
+    1e20,
+];
 
 struct Maker<'a> {
     random: &'a mut Random,
     edition: u8,
     order: Order,
-    types: Vec<Type>,
-    n: usize,
+    dataset: Dataset,
     file: Vec<u8>,
 }
 
 impl Maker<'_> {
     fn k(&self) -> usize {
-        self.types.len()
+        self.dataset.types.len()
     }
 
     fn put(&mut self, bytes: &[u8]) {
@@ -189,22 +267,24 @@ impl Maker<'_> {
         self.put_dead(width - text.len() - 1);
     }
 
-    fn put_any_field(&mut self, least: usize, width: usize) {
+    /// A text for a field of that width.
+    fn any_text(&mut self, least: usize, width: usize) -> Vec<u8> {
         let length = match self.random.below(6) {
             0 => least,
             1 => width - 1,
             2 => self.random.between(least, width - 1),
             _ => self.random.between(least, (width - 1).min(least + 6)),
         };
-        let text = self.random.text(length);
-        self.put_field(&text, width);
+        self.random.text(length)
     }
 
     // Parts that the editions share.
 
     fn names(&mut self) {
         for _ in 0..self.k() {
-            self.put_any_field(1, 33);
+            let name = self.any_text(1, 33);
+            self.put_field(&name, 33);
+            self.dataset.names.push(name);
         }
     }
 
@@ -220,29 +300,49 @@ impl Maker<'_> {
             1 => k,
             _ => self.random.below(k + 1),
         };
-        for variable in &variables[..sorted] {
+        variables.truncate(sorted);
+        for variable in &variables {
             self.put_number(*variable, 2);
         }
         self.put_number(0, 2);
         self.put_dead(2 * (k - sorted));
+        self.dataset.sorted = variables;
     }
 
     fn formats(&mut self) {
         let width = if self.edition == 113 { 12 } else { 49 };
         for _ in 0..self.k() {
-            match self.random.below(3) {
-                0 => self.put_any_field(0, width),
+            let format = match self.random.below(3) {
+                0 => self.any_text(0, width),
                 _ => {
-                    let format = self.random.pick(&["%8.0g", "%9.0g", "%td", "%tc", "%-10s"]);
-                    self.put_field(format.as_bytes(), width);
+                    let usual = ["%8.0g", "%9.0g", "%td", "%tc", "%-10s", "%t", "%"];
+                    self.random.pick(&usual).as_bytes().to_vec()
                 }
-            }
+            };
+            self.put_field(&format, width);
+            self.dataset.formats.push(format);
         }
     }
 
-    fn fields(&mut self, width: usize) {
+    /// Mostly names of label blocks.
+    fn sets(&mut self) {
         for _ in 0..self.k() {
-            self.put_any_field(0, width);
+            let blocks = self.dataset.blocks.len();
+            let set = match self.random.below(4) {
+                0 => self.any_text(0, 33),
+                _ if blocks == 0 => Vec::new(),
+                _ => self.dataset.blocks[self.random.below(blocks)].name.clone(),
+            };
+            self.put_field(&set, 33);
+            self.dataset.sets.push(set);
+        }
+    }
+
+    fn labels(&mut self) {
+        for _ in 0..self.k() {
+            let label = self.any_text(0, 81);
+            self.put_field(&label, 81);
+            self.dataset.labels.push(label);
         }
     }
 
@@ -271,30 +371,129 @@ impl Maker<'_> {
     }
 
     /// The observations; the strL cells that name themselves, in data order.
-    fn data(&mut self) -> Vec<Cell> {
+    fn data(&mut self) -> Vec<Reference> {
         let mut named = Vec::new();
-        for o in 1..=self.n as u64 {
+        for o in 1..=self.dataset.n as u64 {
             for variable in 0..self.k() {
-                match self.types[variable] {
+                let cell = match self.dataset.types[variable] {
                     Type::Strl => self.strl_cell((variable as u64 + 1, o), &mut named),
-                    other => self.plain_cell(other.width()),
-                }
+                    Type::Text(width) => self.text_cell(width),
+                    other => self.number_cell(other),
+                };
+                self.dataset.cells.push(cell);
             }
         }
         named
     }
 
-    fn plain_cell(&mut self, width: usize) {
-        let cell = match self.random.below(5) {
+    fn text_cell(&mut self, width: usize) -> Cell {
+        let length = match self.random.below(5) {
+            0 => 0,
+            1 => width,
+            2 => width - 1,
+            _ => self.random.below(width + 1),
+        };
+        let text = self.random.text(length);
+        match length == width {
+            true => self.put(&text),
+            false => self.put_field(&text, width),
+        }
+        Cell::Text(text)
+    }
+
+    fn number_cell(&mut self, of: Type) -> Cell {
+        let width = of.width();
+        if self.random.once_in(2) {
+            let sought = self.sought();
+            if let Some(bits) = self.holding(of, sought) {
+                self.put_number(bits, width);
+                return Cell::Seeks(sought);
+            }
+        }
+        if let (Type::Float | Type::Double, true) = (of, self.random.once_in(4)) {
+            let value = self.random.pick(&SEEK_NOTHING);
+            match of {
+                Type::Float => self.put_number(u64::from((value as f32).to_bits()), width),
+                _ => self.put_number(value.to_bits(), width),
+            }
+            return Cell::SeeksNothing;
+        }
+        let cell = match self.random.below(4) {
             0 => vec![0; width],
             1 => vec![self.random.pick(&[0x65, 0x7f, 0x80, 0x81, 0xff]); width],
-            2 => self.random.text(width),
+            2 => self.edge(of),
             _ => self.random.bytes(width),
         };
         self.put(&cell);
+        Cell::Any
     }
 
-    fn strl_cell(&mut self, cell: Cell, named: &mut Vec<Cell>) {
+    /// At and beside the letters and the ends of the numbers.
+    fn edge(&mut self, of: Type) -> Vec<u8> {
+        let (step, beside) = (self.random.below(32) as u64, self.random.below(3) as u64);
+        let edge = match of {
+            Type::Double => {
+                let tops = [0x7fe0, 0x7fe0, 0x7ff0, 0xfff0, 0xffe0];
+                (self.random.pick(&tops) << 48) + (step << 40)
+            }
+            Type::Float => {
+                let tops = [0x7f00, 0x7f00, 0x7f80, 0xff80, 0xff00];
+                (self.random.pick(&tops) << 16) + (step << 11)
+            }
+            Type::Long => 0x7fff_ffe4 + step,
+            Type::Int => 0x7fe4 + step,
+            _ => 0x64 + step,
+        };
+        self.order
+            .bytes(edge.wrapping_add(beside).wrapping_sub(1), of.width())
+    }
+
+    /// Mostly a value that a label block has.
+    fn sought(&mut self) -> i32 {
+        let blocks = self.dataset.blocks.len();
+        if blocks > 0 && !self.random.once_in(5) {
+            let block = &self.dataset.blocks[self.random.below(blocks)];
+            if !block.entries.is_empty() {
+                return block.entries[self.random.below(block.entries.len())].0;
+            }
+        }
+        self.random.below(250) as i32 - 125
+    }
+
+    /// The bits of a cell that holds this number, or the letter with this code.
+    fn holding(&mut self, of: Type, sought: i32) -> Option<u64> {
+        let letter = i64::from(sought) - 2_147_483_621;
+        let held = |highest: i64| match letter {
+            0.. => Some(highest - 26 + letter),
+            _ => Some(i64::from(sought)).filter(|q| (-highest..=highest - 27).contains(q)),
+        };
+        match of {
+            Type::Byte => held(127).map(|value| u64::from(value as u8)),
+            Type::Int => held(32_767).map(|value| u64::from(value as u16)),
+            Type::Long => held(2_147_483_647).map(|value| u64::from(value as u32)),
+            _ if sought == i32::MIN => None,
+            Type::Float if letter >= 0 => Some(0x7f00_0000 + 2048 * letter as u64),
+            Type::Float => {
+                let value = sought as f32;
+                (f64::from(value) == f64::from(sought)).then(|| {
+                    u64::from(self.signed_zero(value.to_bits() == 0) << 31 | value.to_bits())
+                })
+            }
+            Type::Double if letter >= 0 => Some(0x7fe0_0000_0000_0000 + ((letter as u64) << 40)),
+            Type::Double => {
+                let bits = f64::from(sought).to_bits();
+                Some(u64::from(self.signed_zero(bits == 0)) << 63 | bits)
+            }
+            Type::Text(_) | Type::Strl => None,
+        }
+    }
+
+    /// The sign of a zero: either.
+    fn signed_zero(&mut self, zero: bool) -> u32 {
+        u32::from(zero && self.random.once_in(2))
+    }
+
+    fn strl_cell(&mut self, cell: Reference, named: &mut Vec<Reference>) -> Cell {
         let reference = match self.random.below(4) {
             0 => (0, 0),
             1 if !named.is_empty() => self.random.pick(named),
@@ -305,9 +504,10 @@ impl Maker<'_> {
         };
         self.put_number(reference.0, 4);
         self.put_number(reference.1, 4);
+        Cell::Reference(reference)
     }
 
-    fn record(&mut self, cell: Cell) {
+    fn record(&mut self, cell: Reference) {
         let length = match self.random.below(6) {
             0 => 0,
             1 => self.random.between(1, 300),
@@ -327,28 +527,51 @@ impl Maker<'_> {
         self.put(&[kind]);
         self.put_number(contents.len() as u64, 4);
         self.put(&contents);
+        self.dataset.records.push(Record {
+            cell,
+            kind,
+            contents,
+        });
     }
 
-    fn label_blocks(&mut self) -> usize {
-        self.random.pick(&[0, 1, 1, 2, 3])
+    /// Names and values of the label blocks; some names occur twice.
+    fn choose_blocks(&mut self) {
+        for _ in 0..self.random.pick(&[0, 1, 1, 2, 3]) {
+            let blocks = self.dataset.blocks.len();
+            let name = match blocks > 0 && self.random.once_in(4) {
+                true => self.dataset.blocks[self.random.below(blocks)].name.clone(),
+                false => self.any_text(1, 33),
+            };
+            let values = self.label_values();
+            let entries = values
+                .into_iter()
+                .map(|value| (value, Vec::new()))
+                .collect();
+            self.dataset.blocks.push(Block { name, entries });
+        }
     }
 
-    fn label_block(&mut self) {
-        let table = self.label_table();
+    fn label_block(&mut self, block: usize) {
+        let table = self.label_table(block);
         self.put_number(table.len() as u64, 4);
-        self.put_any_field(1, 33);
+        let name = self.dataset.blocks[block].name.clone();
+        self.put_field(&name, 33);
         self.put_dead(3);
         self.put(&table);
     }
 
-    fn label_table(&mut self) -> Vec<u8> {
-        let values = self.label_values();
-        let (text, starts) = self.label_text(values.len());
-        let mut numbers = vec![values.len() as u64, text.len() as u64];
-        for _ in &values {
-            numbers.push(self.label_offset(&text, &starts) as u64);
+    fn label_table(&mut self, block: usize) -> Vec<u8> {
+        let entries = self.dataset.blocks[block].entries.len();
+        let (text, starts) = self.label_text(entries);
+        let mut numbers = vec![entries as u64, text.len() as u64];
+        for entry in 0..entries {
+            let offset = self.label_offset(&text, &starts);
+            numbers.push(offset as u64);
+            let label = text[offset..].split(|byte| *byte == 0).next();
+            self.dataset.blocks[block].entries[entry].1 = label.expect("a text").to_vec();
         }
-        numbers.extend(values.iter().map(|value| u64::from(*value as u32)));
+        let values = &self.dataset.blocks[block].entries;
+        numbers.extend(values.iter().map(|(value, _)| u64::from(*value as u32)));
         let mut table: Vec<u8> = numbers
             .iter()
             .flat_map(|number| self.order.bytes(*number, 4))
@@ -365,6 +588,7 @@ impl Maker<'_> {
         };
         let edges = [
             i32::MIN,
+            -i32::MAX,
             -1,
             0,
             1,
@@ -372,6 +596,7 @@ impl Maker<'_> {
             256,
             2_147_483_620,
             2_147_483_621,
+            2_147_483_622,
             i32::MAX,
         ];
         let mut values: Vec<i32> = (0..count)
@@ -432,23 +657,22 @@ impl Maker<'_> {
 
     // Editions 113 and 114.
 
-    fn old(mut self) -> Vec<u8> {
+    fn old(&mut self) {
         self.old_header();
         for variable in 0..self.k() {
-            let code = self.types[variable].old_code();
+            let code = self.dataset.types[variable].old_code();
             self.put(&[code]);
         }
         self.names();
         self.sort_list();
         self.formats();
-        self.fields(33);
-        self.fields(81);
+        self.sets();
+        self.labels();
         self.expansion_blocks();
         self.data();
-        for _ in 0..self.label_blocks() {
-            self.label_block();
+        for block in 0..self.dataset.blocks.len() {
+            self.label_block(block);
         }
-        self.file
     }
 
     fn old_header(&mut self) {
@@ -459,12 +683,14 @@ impl Maker<'_> {
         self.put(&[self.edition, order, 1]);
         self.put_dead(1);
         self.put_number(self.k() as u64, 2);
-        self.put_number(self.n as u64, 4);
+        self.put_number(self.dataset.n as u64, 4);
         let label = self.dataset_label();
         self.put_field(&label, 81);
+        self.dataset.label = label;
         if self.random.once_in(2) {
             let stamp = self.random.text(17);
             self.put(&stamp);
+            self.dataset.stamp = stamp;
         } else {
             self.put(&[0]);
             self.put_dead(16);
@@ -485,7 +711,7 @@ impl Maker<'_> {
 
     // Edition 117.
 
-    fn tagged(mut self) -> Vec<u8> {
+    fn tagged(&mut self) {
         self.tagged_header();
         let mut positions = [0; 14];
         positions[1] = self.file.len();
@@ -496,7 +722,7 @@ impl Maker<'_> {
         positions[2] = self.file.len();
         self.between("variable_types", |maker| {
             for variable in 0..maker.k() {
-                let code = maker.types[variable].tagged_code();
+                let code = maker.dataset.types[variable].tagged_code();
                 maker.put_number(code, 2);
             }
         });
@@ -507,9 +733,9 @@ impl Maker<'_> {
         positions[5] = self.file.len();
         self.between("formats", Maker::formats);
         positions[6] = self.file.len();
-        self.between("value_label_names", |maker| maker.fields(33));
+        self.between("value_label_names", Maker::sets);
         positions[7] = self.file.len();
-        self.between("variable_labels", |maker| maker.fields(81));
+        self.between("variable_labels", Maker::labels);
         positions[8] = self.file.len();
         self.between("characteristics", Maker::characteristics);
         positions[9] = self.file.len();
@@ -523,8 +749,8 @@ impl Maker<'_> {
         });
         positions[11] = self.file.len();
         self.between("value_labels", |maker| {
-            for _ in 0..maker.label_blocks() {
-                maker.between("lbl", Maker::label_block);
+            for block in 0..maker.dataset.blocks.len() {
+                maker.between("lbl", |maker| maker.label_block(block));
             }
         });
         positions[12] = self.file.len();
@@ -535,7 +761,6 @@ impl Maker<'_> {
             let bytes = self.order.bytes(*position as u64, 8);
             self.file[place..place + 8].copy_from_slice(&bytes);
         }
-        self.file
     }
 
     fn between(&mut self, tag: &str, contents: impl FnOnce(&mut Self)) {
@@ -552,12 +777,13 @@ impl Maker<'_> {
         self.put(b"<stata_dta><header><release>117</release>");
         self.between("byteorder", |maker| maker.put(order.as_bytes()));
         self.between("K", |maker| maker.put_number(maker.k() as u64, 2));
-        self.between("N", |maker| maker.put_number(maker.n as u64, 4));
+        self.between("N", |maker| maker.put_number(maker.dataset.n as u64, 4));
         let label = self.dataset_label();
         self.between("label", |maker| {
             maker.put(&[label.len() as u8]);
             maker.put(&label);
         });
+        self.dataset.label = label;
         let stamp = match self.random.once_in(2) {
             true => self.random.text(17),
             false => Vec::new(),
@@ -566,6 +792,7 @@ impl Maker<'_> {
             maker.put(&[stamp.len() as u8]);
             maker.put(&stamp);
         });
+        self.dataset.stamp = stamp;
         self.put(b"</header>");
     }
 

@@ -2,11 +2,16 @@
 //! The reader is written from the paper alone and serves only to test.
 
 pub mod damage;
+pub mod dead;
 pub mod generate;
 pub mod parts;
 pub mod proved;
+pub mod questions;
 pub mod random;
 pub mod reader;
+pub mod record;
+pub mod sketch;
 pub mod stated;
+pub mod wrong;
 
 pub use reader::{check, line, Layout};

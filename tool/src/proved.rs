@@ -62,3 +62,5 @@ pub fn check(file: &[u8]) -> Result<Layout, u8> {
 pub fn line(file: &[u8]) -> String {
     line_of(&check(file), file.len())
 }
+
+// Questions.

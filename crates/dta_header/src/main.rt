@@ -2,17 +2,12 @@
 
 use checking::Layout;
 
-// Writes a text.
-fn say(t: &[u8]) {
-    io::write_all(1, t);
-}
-
 // Writes the byte order.
 fn say_order(order: u64) {
     if order == 1 {
-        say(b" MSF ");
+        printing::say(b" MSF ");
     } else {
-        say(b" LSF ");
+        printing::say(b" LSF ");
     }
 }
 
@@ -21,11 +16,11 @@ fn say_layout(l: Layout, n: usize) {
     io::print_decimal(1, l.edition);
     say_order(l.order);
     io::print_decimal(1, l.k);
-    say(b" ");
+    printing::say(b" ");
     io::print_decimal(1, l.n);
-    say(b" ");
+    printing::say(b" ");
     io::print_decimal(1, n as u64);
-    say(b"\n");
+    printing::say(b"\n");
 }
 
 // Writes the line of a file.
@@ -34,9 +29,9 @@ fn say_file(f: &[u8]) {
     if c.code == 0 {
         say_layout(c.layout, f.len());
     } else {
-        say(b"refused ");
+        printing::say(b"refused ");
         io::print_decimal(1, c.code as u64);
-        say(b"\n");
+        printing::say(b"\n");
     }
 }
 
@@ -48,6 +43,6 @@ fn main() {
     if m == 0 {
         say_file(&file[..n]);
     } else {
-        say(b"too long\n");
+        printing::say(b"too long\n");
     }
 }

@@ -8,28 +8,12 @@ use search::Slot;
 ghost use Prim.Native.Nat.{_<_};
 ghost use Rattle.cell.specs.Cells.{Lettered, says};
 
-// Writes a text.
-fn say(t: &[u8]) {
-    io::write_all(1, t);
-}
-
-// Writes a signed number in decimal.
-fn say_signed(x: i32) {
-    if x < 0 {
-        say(b"-");
-        let y = -1 - x;
-        io::print_decimal(1, y as u64 + 1);
-    } else {
-        io::print_decimal(1, x as u64);
-    }
-}
-
 // Writes the byte order.
 fn say_order(msf: bool) {
     if msf {
-        say(b" MSF ");
+        printing::say(b" MSF ");
     } else {
-        say(b" LSF ");
+        printing::say(b" LSF ");
     }
 }
 
@@ -49,19 +33,17 @@ fn say_bytes(t: &[u8]) {
 
 // Writes a float or double by the bits of a double with its value.
 fn say_double(x: f64) {
-    if x == x {
-        say(b"number ");
-        io::print_hex(1, f64::to_bits(x), 16);
-    }
+    printing::say(b"number ");
+    printing::say_bits(x);
 }
 
 // Writes the letter of a missing value: `.`, or `.a` to `.z`.
 fn say_letter(k: u8) {
-    say(b"letter .");
+    printing::say(b"letter .");
     if 0 < k {
         if k <= 26 {
             let c = [96 + k];
-            say(&c);
+            printing::say(&c);
         }
     }
 }
@@ -70,8 +52,8 @@ fn say_letter(k: u8) {
 fn say_cell(c: Cell) {
     match c {
         Cell::Whole(x) => {
-            say(b"number ");
-            say_signed(x);
+            printing::say(b"number ");
+            printing::say_signed(x);
         }
         Cell::Single(x) => {
             say_double(std::num::f32_to_f64_with_nan(x));
@@ -83,16 +65,16 @@ fn say_cell(c: Cell) {
             say_letter(k);
         }
         Cell::Between => {
-            say(b"between");
+            printing::say(b"between");
         }
         Cell::Outside => {
-            say(b"outside");
+            printing::say(b"outside");
         }
         Cell::Text(_, _) => {
-            say(b"text");
+            printing::say(b"text");
         }
         Cell::Reference(_, _) => {
-            say(b"reference");
+            printing::say(b"reference");
         }
     }
 }
@@ -101,47 +83,47 @@ fn say_cell(c: Cell) {
 fn say_both(c: Cell)
     requires { ⌜ Lettered (says c) ⌝ }
 {
-    say(b" ");
+    printing::say(b" ");
     say_cell(c);
-    say(b" seeks ");
+    printing::say(b" seeks ");
     let k = cell::key_of(c);
     match k {
         Key::Seeks(q) => {
-            say_signed(q);
+            printing::say_signed(q);
         }
         Key::Nothing => {
-            say(b"nothing");
+            printing::say(b"nothing");
         }
     }
-    say(b"\n");
+    printing::say(b"\n");
 }
 
 // Writes the name of a kind.
 fn say_kind(kind: Kind) {
     match kind {
         Kind::Text => {
-            say(b"text");
+            printing::say(b"text");
         }
         Kind::StrL => {
-            say(b"strL");
+            printing::say(b"strL");
         }
         Kind::Byte => {
-            say(b"byte");
+            printing::say(b"byte");
         }
         Kind::Int => {
-            say(b"int");
+            printing::say(b"int");
         }
         Kind::Long => {
-            say(b"long");
+            printing::say(b"long");
         }
         Kind::Float => {
-            say(b"float");
+            printing::say(b"float");
         }
         Kind::Double => {
-            say(b"double");
+            printing::say(b"double");
         }
         Kind::Unknown => {
-            say(b"unknown");
+            printing::say(b"unknown");
         }
     }
 }
@@ -183,13 +165,13 @@ fn cell_line(row: &[u8]) {
             say_both(cell::cell_at(row, 3, Kind::Double, 8, 4, 4, msf));
         }
         Kind::Text => {
-            say(b"\n");
+            printing::say(b"\n");
         }
         Kind::StrL => {
-            say(b"\n");
+            printing::say(b"\n");
         }
         Kind::Unknown => {
-            say(b"\n");
+            printing::say(b"\n");
         }
     }
 }
@@ -205,16 +187,16 @@ fn code_line(row: &[u8]) {
     let kind = field.kind;
     let width = field.width;
     if tagged {
-        say(b"117 type ");
+        printing::say(b"117 type ");
     } else {
-        say(b"114 type ");
+        printing::say(b"114 type ");
     }
     io::print_decimal(1, code as u64);
-    say(b" ");
+    printing::say(b" ");
     say_kind(kind);
-    say(b" ");
+    printing::say(b" ");
     io::print_decimal(1, width as u64);
-    say(b"\n");
+    printing::say(b"\n");
 }
 
 // The value sought, by the byte that is one more.
@@ -235,25 +217,25 @@ fn search_line(row: &[u8]) {
     }
     let msf = row[0] == 1;
     let sought = sought_by(row[1]);
-    say(b"table");
+    printing::say(b"table");
     say_order(msf);
     say_bytes(&row[2..33]);
-    say(b" seeks ");
-    say_signed(sought);
+    printing::say(b" seeks ");
+    printing::say_signed(sought);
     let slot = search::find_value(row, 18, 33, 2, msf, sought);
     match slot {
         Slot::Found(k) => {
-            say(b" slot ");
+            printing::say(b" slot ");
             io::print_decimal(1, k as u64);
         }
         Slot::Missing => {
-            say(b" not found");
+            printing::say(b" not found");
         }
         Slot::Lost => {
-            say(b" lost");
+            printing::say(b" lost");
         }
     }
-    say(b"\n");
+    printing::say(b"\n");
 }
 
 // The line of a row.

@@ -20,6 +20,8 @@ pub mod HoldsLaws
 pub mod DeadSlots
 pub mod DeadLaws
 pub mod CutLaws
+pub mod OrderLaws
+pub mod SearchLaws
 pub mod StepLaws
 pub mod WriteLaws
 pub mod Theorems

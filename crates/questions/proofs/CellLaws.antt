@@ -1,25 +1,25 @@
 -- Cells of an accepted file.
-use mathlib.Core.Path.{_≡_, refl, sym, ap, _∙_, subst}
-use Prim.Native.Nat.{ℕ, zero, suc, _+_, _-_, _*_, _^_, _≤_, _<_}
+use mathlib.Core.Path.{_≡_}
+use Prim.Native.Nat.{ℕ, zero, suc, _+_, _-_, _*_, _^_, _<_}
 use native.Mathlib.Nat.{add-zero, not-suc-le-zero, le-of-suc-le-suc}
 use native.Mathlib.Omega.{arith}
-use mathlib.Core.List.{List, [], _∷_, _++_}
-use mathlib.Core.Bool.{Bool, true, false}
+use mathlib.Core.List.{List, [], _∷_}
+use mathlib.Core.Bool.{true}
 use lib.ListN.{length, getD, take}
-use Rattle.format.specs.Slot.{Slot, Fits}
+use Rattle.format.specs.Slot.{Fits}
 use Rattle.format.specs.Number.{Order, num, numSlots}
-use Rattle.format.specs.Grammar.{Sect, number, textAt, textSlots, within, times, row, rowSlots, RowRight, rowWidth, tag, between}
+use Rattle.format.specs.Grammar.{Sect, textAt, within, times, row, rowSlots, RowRight, rowWidth, tag, between}
 use Rattle.format.specs.Edition.{Edition, opening, closing, n-data}
 use Rattle.format.specs.Variables.{VarType, textType, strLType, byteType, intType, longType, floatType, doubleType}
 use Rattle.format.specs.Data.{Cell, bits, bitsOf, charsOf, linkOf, cell, cellWidth, observations}
-use Rattle.format.specs.Cells.{Says, saysAt}
+use Rattle.format.specs.Cells.{Says}
 use Rattle.format.proofs.SlotLaws.{fits-left, fits-after, length-tab}
 use Rattle.format.proofs.NumberLaws.{num-read}
-use Rattle.format.proofs.Good.{Good, text-read, good-right, between-fits, Element, element}
+use Rattle.format.proofs.Good.{text-read, good-right, between-fits, element}
 use Rattle.format.proofs.RowLaws.{row-wide, row-of-good}
 use Rattle.format.proofs.DataLaws.{cell-good, cell-wide}
-use Rattle.questions.specs.Readings.{Try, none, got, bind, room, textNeeds}
-use Rattle.questions.specs.Ask.{among, cellNeeds, cellAt, cellPlace}
+use Rattle.questions.specs.Readings.{got, bind, room, textNeeds}
+use Rattle.questions.specs.Ask.{among, cellAt, cellPlace}
 use Rattle.questions.specs.Fact.{cellSays}
 use Rattle.questions.proofs.ReadLaws.{room-is, number-room, text-room, needs-in, among-below}
 

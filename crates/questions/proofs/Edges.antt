@@ -7,22 +7,25 @@ use mathlib.Core.List.{List, [], _∷_, _++_}
 use mathlib.Core.Bool.{true, false}
 use lib.ListN.{replicate, take}
 use lib.IntN.{pos}
+use lib.Ieee.{binary32, ofBits}
 use Rattle.format.specs.Edition.{ascii}
-use Rattle.format.specs.Variables.{byteType, intType, doubleType, textType}
-use Rattle.format.specs.Cells.{whole, letter, outside, words, reference}
+use Rattle.format.specs.Variables.{intType, floatType, doubleType}
+use Rattle.format.specs.Cells.{whole, single, letter, outside, words, reference}
 use Rattle.format.specs.Search.{searchAt}
 use Rattle.format.specs.Dta.{Layout}
-use Rattle.format.proofs.Examples.{yesNo}
+use Rattle.format.proofs.Examples.{yesNo, p14}
 use Rattle.questions.specs.Ask.{Question, askEdition, askOrder, askK, askN, askLabel, askStamp, askType, askName, askFormat, askSet, askVarLabel, askDate, askSort, askColumn, askCell, askLong, askWords, Answer, refused, count, mark, typed, part, column, plain, long, shown, answerOf}
 use Rattle.questions.specs.Ask as Ask
 
--- a row: what it is, a file, a layout, a question, the answer that it must get
+-- a row: what it is, a file, a layout, a question, the answer that it must get; or the bytes that the answer must show
 data Row : Type 0 where
   asks : String → List ℕ → Layout → Question → Answer → Row
+  shows : String → List ℕ → Layout → Question → List ℕ → Row
 
 -- the row holds
 abbrev Holds : Row → Type 0
 Holds (asks s f l q a) = answerOf f l q ≡ a
+Holds (shows s f l q t) = shown f (answerOf f l q) ≡ t
 
 -- each of them holds
 abbrev AllHold : List Row → Type 0
@@ -160,6 +163,13 @@ asked x = 251 ∷ x ∷ 121 ∷ 110 ∷ 0 ∷ []
 abbrev block : ℕ → List ℕ → List ℕ
 block c t = (0 ∷ 0 ∷ 0 ∷ 31 ∷ []) ++ c ∷ 110 ∷ 0 ∷ replicate 30 9 ++ replicate 3 9 ++ t
 
+-- 117: type at 16, data at 18, set name at 19, <lbl> at 22, name at 31; the table follows, and label blocks end 15 bytes before z
+abbrev words-117 : ℕ → Layout
+words-117 z = lay 117 1 1 1 (0 ∷ 0 ∷ 0 ∷ 0 ∷ 0 ∷ 0 ∷ 0 ∷ 0 ∷ 0 ∷ 12 ∷ 0 ∷ 8 ∷ z ∷ 0 ∷ [])
+
+abbrev tagged : List ℕ
+tagged = replicate 16 9 ++ 255 ∷ 250 ∷ 1 ∷ 121 ∷ 110 ∷ 0 ∷ replicate 5 9 ++ 0 ∷ 0 ∷ 0 ∷ 31 ∷ 121 ∷ 110 ∷ 0 ∷ replicate 33 9
+
 labels : List Row
 labels =
     asks "1 is yes" (asked 1 ++ block 121 (yesNo 1 2)) (words-by 76) (askWords 1 1 []) (part 69 3)
@@ -177,19 +187,22 @@ labels =
     ∷ asks "a head that ends after its part" (asked 1 ++ block 121 (yesNo 1 2)) (words-by 44) (askWords 1 1 []) (refused 17)
     ∷ asks "of a block walked over, its name's text is enough" (asked 1 ++ take 7 (block 120 [])) (words-by 76) (askWords 1 1 (7 ∷ [])) (plain (7 ∷ []))
     ∷ asks ".. with its zero" (asked 1 ++ take 6 (block 120 [])) (words-by 76) (askWords 1 1 (7 ∷ [])) (refused 17)
-    ∷ asks "counts that do not make up the table's length" (asked 1 ++ block 121 (0 ∷ 0 ∷ 0 ∷ 1 ∷ replicate 27 0)) (words-by 76) (askWords 1 1 []) (refused 17)
+    ∷ asks "counts that make up less than the table's length" (asked 1 ++ block 121 (0 ∷ 0 ∷ 0 ∷ 1 ∷ replicate 27 0)) (words-by 76) (askWords 1 1 []) (refused 17)
+    ∷ asks ".. or more than it" (asked 1 ++ block 121 (0 ∷ 0 ∷ 0 ∷ 2 ∷ 0 ∷ 0 ∷ 0 ∷ 8 ∷ replicate 23 0)) (words-by 76) (askWords 1 1 []) (refused 17)
     ∷ asks "values out of order: the search as published" (asked 2 ++ block 121 (yesNo 2 1)) (words-by 76) (askWords 1 1 (7 ∷ [])) (part 69 3)
     ∷ asks ".. and what it misses" (asked 1 ++ block 121 (yesNo 2 1)) (words-by 76) (askWords 1 1 (7 ∷ [])) (plain (7 ∷ []))
     ∷ asks "a value that is not there" (asked 1 ++ take 57 (block 121 (yesNo 1 2))) (words-by 76) (askWords 1 1 []) (refused 17)
     ∷ asks "an offset at the text's end" (asked 1 ++ take 51 (block 121 (yesNo 1 2)) ++ 7 ∷ (0 ∷ 0 ∷ 0 ∷ 4 ∷ 0 ∷ 0 ∷ 0 ∷ 1 ∷ 0 ∷ 0 ∷ 0 ∷ 2 ∷ replicate 7 0)) (words-by 76) (askWords 1 1 []) (refused 17)
     ∷ asks "a label without its zero" (asked 2 ++ take 70 (block 121 (yesNo 1 2)) ++ 65 ∷ []) (words-by 76) (askWords 1 1 []) (refused 17)
     ∷ asks "a label with its zero, its table cut" (asked 1 ++ take 68 (block 121 (yesNo 1 2))) (words-by 76) (askWords 1 1 []) (part 69 3)
+    ∷ asks "117: 1 is yes" (tagged ++ yesNo 1 2) (words-117 119) (askWords 1 1 []) (part 91 3)
+    ∷ asks "117: a block whose </lbl> ends after its part" (tagged ++ yesNo 1 2) (words-117 118) (askWords 1 1 []) (refused 17)
     ∷ []
 
 labels-hold : AllHold labels
 unfolding labels answerOf searchAt
 labels-hold =
-    (refl, (refl, (refl, (refl, (refl, (refl, (refl, (refl, (refl, (refl, (refl, (refl, (refl, (refl, (refl, (refl, (refl, (refl, (refl, (refl, (refl, (refl, tt))))))))))))))))))))))
+    (refl, (refl, (refl, (refl, (refl, (refl, (refl, (refl, (refl, (refl, (refl, (refl, (refl, (refl, (refl, (refl, (refl, (refl, (refl, (refl, (refl, (refl, (refl, (refl, (refl, tt)))))))))))))))))))))))))
 
 -- ---- long strings: 117, one strL variable, its type at 16, its cell at 18, records from 26 on
 
@@ -221,3 +234,31 @@ longs =
 longs-hold : AllHold longs
 unfolding longs answerOf
 longs-hold = (refl, (refl, (refl, (refl, (refl, (refl, (refl, (refl, (refl, tt)))))))))
+
+-- ---- an accepted file with its own layout: P14
+
+abbrev p14-layout : Layout
+p14-layout = lay 117 1 2 1 (0 ∷ 153 ∷ 276 ∷ 313 ∷ 400 ∷ 427 ∷ 544 ∷ 649 ∷ 846 ∷ 881 ∷ 900 ∷ 915 ∷ 944 ∷ 956 ∷ [])
+
+p14-rows : List Row
+p14-rows =
+    asks "label" p14 p14-layout askLabel (part 95 0)
+    ∷ asks "stamp" p14 p14-layout askStamp (part 115 17)
+    ∷ shows "the stamp's bytes" p14 p14-layout askStamp (ascii "10 Jul 2013 14:23")
+    ∷ asks "type 1" p14 p14-layout (askType 1) (typed floatType)
+    ∷ asks "type 2" p14 p14-layout (askType 2) (typed intType)
+    ∷ asks "name 2" p14 p14-layout (askName 2) (part 356 5)
+    ∷ shows "the bytes of name 1" p14 p14-layout (askName 1) (ascii "myfloat")
+    ∷ shows "the bytes of name 2" p14 p14-layout (askName 2) (ascii "myint")
+    ∷ shows "the bytes of name 3" p14 p14-layout (askName 3) []
+    ∷ asks "sort place 1" p14 p14-layout (askSort 1) (count 0)
+    ∷ asks "column 2" p14 p14-layout (askColumn 2) (column intType 4 6)
+    ∷ asks "cell 1, 1" p14 p14-layout (askCell 1 1) (Ask.cell (single (ofBits binary32 0)))
+    ∷ asks "cell 2, 1" p14 p14-layout (askCell 2 1) (Ask.cell (whole (pos 0)))
+    ∷ asks "no label set 2" p14 p14-layout (askWords 2 1 (48 ∷ [])) (plain (48 ∷ []))
+    ∷ shows "the lent text" p14 p14-layout (askWords 2 1 (48 ∷ [])) (48 ∷ [])
+    ∷ []
+
+p14-hold : AllHold p14-rows
+unfolding p14-rows p14 answerOf
+p14-hold = (refl, (refl, (refl, (refl, (refl, (refl, (refl, (refl, (refl, (refl, (refl, (refl, (refl, (refl, (refl, tt)))))))))))))))

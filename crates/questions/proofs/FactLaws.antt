@@ -1,10 +1,9 @@
 -- A file that fits what a dataset's grammar makes of it, asked by that dataset's layout, answers what the dataset does.
 use mathlib.Core.Path.{_≡_, refl, sym, ap, _∙_, subst}
 use Prim.Native.Nat.{ℕ, suc, _+_, _-_, _<_}
-use native.Mathlib.Omega.{arith}
 use mathlib.Core.List.{List, []}
 use mathlib.Core.Bool.{Bool, true, false, cond, _&&_}
-use lib.ListN.{length, getD}
+use lib.ListN.{length}
 use lib.Dec.{eqb}
 use lib.IntN.{ℤ}
 use Rattle.format.specs.Number.{Order}
@@ -14,15 +13,15 @@ use Rattle.format.specs.Variables.{nonempty}
 use Rattle.format.specs.Data.{strls}
 use Rattle.format.specs.Labels.{block}
 use Rattle.format.specs.Cells.{Says, whole, single, double, letter, between, outside, words, reference, Key, nothing, seeks, keyOf}
-use Rattle.format.specs.Dta.{Dataset, Extras, Layout, layoutBy, positions, partSizes}
+use Rattle.format.specs.Dta.{Dataset, Extras, Layout, layoutBy, partSizes}
 use Rattle.format.proofs.Good.{and-left, and-right}
 use Rattle.format.proofs.PartLaws.{place, SectionsRight, SectionsFit}
-use Rattle.questions.specs.Readings.{Try, none, got, bind, textIn}
+use Rattle.questions.specs.Readings.{Try, got}
 use Rattle.questions.specs.Ask.{Question, askEdition, askOrder, askK, askN, askLabel, askStamp, askType, askName, askFormat, askSet, askVarLabel, askDate, askSort, askColumn, askCell, askLong, askWords, Answer, refused, plain, long, shown, among, inRange, startOf, endOf, cellPlace, cellIn, recordsIn, longBy, blocksIn, soughtIn, setWords, orRefused, answerIn, answerOf}
 use Rattle.questions.specs.Fact.{typeAsked, cellAsked, setAsked, cellFact, recordsFact, longFact, blocksFact, soughtFact, factIn, factOf, wordsBytes, bytesIn, bytesOf}
 use Rattle.questions.proofs.ReadLaws.{answer-in}
 use Rattle.questions.proofs.FieldLaws.{TextField, part-is, name-field, text-field, own-types, own-type, types-count, own-sort}
-use Rattle.questions.proofs.HeadLaws.{PartIs, HeadFacts, head-facts}
+use Rattle.questions.proofs.HeadLaws.{HeadFacts, head-facts}
 use Rattle.questions.proofs.CellLaws.{CellFits, cell-at, own-cell}
 use Rattle.questions.proofs.LongLaws.{longs-fit, longs-right, own-records}
 use Rattle.questions.proofs.WordLaws.{blocks-fit, blocks-right, own-blocks}

@@ -1,21 +1,21 @@
 -- The lists of variables in an accepted file: text fields, types, sort list.
-use mathlib.Core.Path.{_≡_, refl, sym, ap, _∙_, subst}
-use Prim.Native.Nat.{ℕ, zero, suc, _+_, _-_, _*_, _≤_, _<_}
+use mathlib.Core.Path.{_≡_, refl, ap, _∙_}
+use Prim.Native.Nat.{ℕ, zero, suc, _+_, _-_, _*_, _≤_}
 use native.Mathlib.Omega.{arith}
-use mathlib.Core.List.{List, [], _∷_, _++_}
+use mathlib.Core.List.{List, [], _∷_}
 use mathlib.Core.Bool.{Bool, true, false, cond}
 use lib.ListN.{length, getD, replicate}
 use lib.Dec.{eqb}
 use borrow.Author.Tests.{ne-eqb}
-use Rattle.format.specs.Slot.{Slot, spare, Fits}
+use Rattle.format.specs.Slot.{spare, Fits}
 use Rattle.format.specs.Number.{Order, numSlots}
-use Rattle.format.specs.Grammar.{Sect, number, text, textAt, Ended, endedSlots, ended, times, within, ruled, tag, between, allSlots, AllRight}
+use Rattle.format.specs.Grammar.{text, textAt, Ended, endedSlots, ended, times, within, ruled, tag, between, allSlots, AllRight}
 use Rattle.format.specs.Edition.{codeWidth, opening, closing, n-variable-types, n-varnames, n-sortlist}
-use Rattle.format.specs.Variables.{VarType, byteType, typeBy, codeOf, hasType, typeCode, types, name, names, fresh, sortList, fields}
+use Rattle.format.specs.Variables.{VarType, byteType, codeOf, typeCode, types, name, names, fresh, sortList, fields}
 use Rattle.format.proofs.SlotLaws.{fits-left, fits-right, length-tab}
-use Rattle.format.proofs.Good.{Good, good-right, text-good, between-fits, Element, element}
+use Rattle.format.proofs.Good.{good-right, text-good, between-fits, element}
 use Rattle.format.proofs.VariableLaws.{name-good, name-wide, code-good, code-wide}
-use Rattle.questions.specs.Readings.{Try, none, got, bind, textIn}
+use Rattle.questions.specs.Readings.{got, textIn}
 use Rattle.questions.specs.Ask.{part, slice, among, textPart, typeIn, typesIn, sortIn}
 use Rattle.questions.specs.Fact.{sortPlace}
 use Rattle.questions.proofs.ReadLaws.{number-is, text-in, text-part, among-below}

@@ -1,23 +1,23 @@
 -- Dataset label and stamp of an accepted file.
-use mathlib.Core.Path.{_≡_, refl, sym, ap, _∙_, subst}
-use Prim.Native.Nat.{ℕ, zero, suc, _+_, _-_, _*_, _^_, _≤_, _<_}
+use mathlib.Core.Path.{_≡_, refl, subst}
+use Prim.Native.Nat.{ℕ, zero, suc, _+_, _-_, _≤_, _<_}
 use native.Mathlib.Omega.{arith}
 use mathlib.Core.List.{List, [], _∷_, _++_, map}
-use mathlib.Core.Bool.{Bool, true, false, cond, not, _&&_}
+use mathlib.Core.Bool.{Bool, true, false, not}
 use lib.ListN.{length, getD, length-map, length-append}
 use lib.Dec.{eqb, leb}
 use borrow.Author.Tests.{eq-eqb, not-true}
-use Rattle.format.specs.Slot.{Slot, byte, spare, Fits}
-use Rattle.format.specs.Number.{Order, msf, lsf, num, numSlots}
+use Rattle.format.specs.Slot.{byte, Fits}
+use Rattle.format.specs.Number.{Order, msf, lsf, numSlots}
 use Rattle.format.specs.Grammar.{Sect, number, within, ruled, noZero, text, textAt, textSlots, tag, between}
 use Rattle.format.specs.Edition.{Edition, taggedStart, opening, closing, orderText, n-byteorder, n-K, n-N, n-label, n-timestamp}
 use Rattle.format.specs.Header.{Head, kRule, nRule, stampLength, oldStamp, oldHeader, counted, newFacts, newHeader, headerBy, header}
 use Rattle.format.specs.Dta.{Dataset, headOf}
-use Rattle.format.proofs.SlotLaws.{fits-left, fits-right, fits-bound, fits-after, length-tab}
+use Rattle.format.proofs.SlotLaws.{fits-left, fits-bound, fits-after, length-tab}
 use Rattle.format.proofs.Good.{Good, and-left, and-right, good-right, number-good, text-read, text-length, tag-good, between-fits, within-good, ruled-good}
 use Rattle.format.proofs.TagLaws.{bytes-of, start-bytes, part-good}
 use Rattle.format.proofs.HeaderLaws.{counted-good}
-use Rattle.questions.specs.Readings.{Try, none, got, bind, room, numberIn, textIn}
+use Rattle.questions.specs.Readings.{Try, got, numberIn}
 use Rattle.questions.specs.Ask.{Answer, part, slice, textPart, countedPart, oldLabelPlace, newLabelPlace, stampGap, labelIn, stampIn}
 use Rattle.questions.specs.Fact.{labelPlace, stampPlace}
 use Rattle.questions.proofs.ReadLaws.{room-is, number-is, text-in, text-part, bytes-at}

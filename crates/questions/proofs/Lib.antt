@@ -3,12 +3,12 @@ pub mod FieldLaws
 pub mod HeadLaws
 pub mod CellLaws
 pub mod LongLaws
-pub mod SearchLaws
 pub mod TableLaws
 pub mod WordLaws
 pub mod ShownLaws
 pub mod SomeLaws
 pub mod FactLaws
+pub mod FoundLaws
 pub mod OwnLaws
 pub mod Theorems
 pub mod Edges

@@ -1,11 +1,11 @@
 -- Long strings of an accepted file.
-use mathlib.Core.Path.{_≡_, refl, sym, ap, _∙_, subst}
-use Prim.Native.Nat.{ℕ, zero, suc, _+_, _-_, _*_, _^_, _≤_, _<_}
+use mathlib.Core.Path.{_≡_, refl, ap, subst}
+use Prim.Native.Nat.{ℕ, zero, suc, _+_, _-_, _≤_, _<_}
 use native.Mathlib.Omega.{arith}
 use mathlib.Core.List.{List, [], _∷_, _++_, map}
-use mathlib.Core.Bool.{Bool, true, false, cond, _&&_}
-use lib.ListN.{length, getD, length-map, length-append}
-use lib.Dec.{eqb, leb}
+use mathlib.Core.Bool.{Bool, cond, _&&_}
+use lib.ListN.{length, length-map, length-append}
+use lib.Dec.{eqb}
 use borrow.Author.Tests.{le-leb, lt-leb}
 use Rattle.format.specs.Slot.{Slot, byte, Fits}
 use Rattle.format.specs.Number.{Order, numSlots}
@@ -13,9 +13,9 @@ use Rattle.format.specs.Grammar.{Sect, tag, allSlots, sizes, AllRight}
 use Rattle.format.specs.Edition.{Edition, opening, closing, n-strls, t-GSO}
 use Rattle.format.specs.Data.{Cell, LongString, longHead, longRecord, strls}
 use Rattle.format.proofs.SlotLaws.{fits-left, fits-right, fits-after, length-tab}
-use Rattle.format.proofs.Good.{Good, good-bound, good-right}
+use Rattle.format.proofs.Good.{good-bound, good-right}
 use Rattle.format.proofs.DataLaws.{record-good}
-use Rattle.questions.specs.Readings.{Try, none, got, bind, test, room, numberIn}
+use Rattle.questions.specs.Readings.{Try, got, numberIn}
 use Rattle.questions.specs.Ask.{Answer, long, slice, recordHead, recordsIn}
 use Rattle.questions.specs.Fact.{recordsFact}
 use Rattle.questions.proofs.ReadLaws.{room-is, number-is, bytes-at}

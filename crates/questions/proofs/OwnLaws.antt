@@ -1,20 +1,24 @@
 -- An accepted file with its own layout, and a file that differs from it in dead bytes only.
-use mathlib.Core.Path.{_≡_, refl, sym, ap, _∙_, subst}
+use mathlib.Core.Path.{_≡_, sym, ap, _∙_, subst}
 use Prim.Native.Nat.{ℕ, _<_}
 use native.Mathlib.Omega.{arith}
 use mathlib.Core.List.{List}
-use mathlib.Core.Bool.{Bool, true, false}
+use mathlib.Core.Bool.{true, false}
 use lib.ListN.{length, getD}
 use Rattle.format.specs.Slot.{Fits, Bytes}
-use Rattle.format.specs.Grammar.{Sect}
 use Rattle.format.specs.Edition.{Release, edition}
+use Rattle.format.specs.Labels.{LabelBlock}
+use Rattle.format.specs.Cells.{signedBy}
+use Rattle.format.specs.Search.{found}
 use Rattle.format.specs.Dta.{Layout, layoutBy, layoutOf, file, verdict, contents, datasetOf, deadIn, releaseOf, orderOf, editionOf}
 use Rattle.format.proofs.SlotLaws.{fits-live}
 use Rattle.format.proofs.FileLaws.{number-small, sound, itself, layout-is}
 use Rattle.format.proofs.PartLaws.{SectionsRight, sections-of, SectionsFit, sections-fit}
-use Rattle.questions.specs.Readings.{Try, got}
-use Rattle.questions.specs.Ask.{Question, Answer, refused, shown, inRange, orRefused, answerOf}
-use Rattle.questions.specs.Fact.{factIn, factOf, bytesOf}
+use Rattle.questions.specs.Readings.{got}
+use Rattle.questions.specs.Ask.{Question, Answer, shown, inRange, orRefused, answerOf}
+use Rattle.questions.specs.Fact.{slotFact, factIn, factOf, bytesOf}
+use Rattle.questions.proofs.WordLaws.{blocks-right}
+use Rattle.questions.proofs.FoundLaws.{blocks-found}
 use Rattle.questions.proofs.FactLaws.{own-is, bytes-are, some-fact}
 use Rattle.questions.proofs.SomeLaws.{Some, Answered, some-got, some-answered}
 
@@ -68,6 +72,13 @@ module _ (f : List ℕ) (u : Bytes f) (h : verdict f ≡ 0) where
 
     pub own-answered : Answered (answerOf f (layoutOf f) q)
     own-answered = subst Answered (sym fact-own) (some-answered (factIn (editionOf f) (orderOf f) (contents f) q) some)
+
+  -- each value of its label tables finds its own slot
+  pub label-found : (z : LabelBlock) (i : ℕ) → i < length (datasetOf f .labelBlocks) → (m : ℕ) → m < length (getD (datasetOf f .labelBlocks) i z .entries .offsets)
+      → slotFact (signedBy 2147483648 (getD (getD (datasetOf f .labelBlocks) i z .entries .values) m 0)) (getD (datasetOf f .labelBlocks) i z .entries) ≡ found m
+  label-found z i b m c =
+      blocks-found (editionOf f .tagged) (orderOf f) (editionOf f .nameWidth) z (datasetOf f .labelBlocks)
+      (blocks-right (editionOf f) (orderOf f) (datasetOf f .labelBlocks) (right .blockList)) i b m c
 
   -- a file that agrees with f but for dead bytes
   module _ (g : List ℕ) (l : length g ≡ length f) (e : (i : ℕ) → i < length f → deadIn f i ≡ false → getD g i 0 ≡ getD f i 0) where

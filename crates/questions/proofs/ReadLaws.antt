@@ -1,14 +1,14 @@
 -- Readings inside a file, and what they give where slots stand.
-use mathlib.Core.Path.{_≡_, refl, sym, ap, _∙_, subst}
-use Prim.Native.Nat.{ℕ, zero, suc, _+_, _-_, _*_, _^_, _≤_, _<_}
+use mathlib.Core.Path.{_≡_, refl, ap, _∙_}
+use Prim.Native.Nat.{ℕ, zero, suc, _+_, _-_, _^_, _≤_, _<_}
 use native.Mathlib.Omega.{arith}
-use mathlib.Core.List.{List, [], _∷_, _++_, map}
-use mathlib.Core.Bool.{Bool, true, false, cond, _&&_}
+use mathlib.Core.List.{List, [], _∷_, map}
+use mathlib.Core.Bool.{Bool, true, false, cond}
 use lib.ListN.{length, getD, take, drop}
 use lib.Seq.{drop-cons}
 use lib.Dec.{eqb, leb, ltb}
 use borrow.Author.Tests.{le-leb, leb-true, ltb-true}
-use Rattle.format.specs.Slot.{Slot, byte, Fits}
+use Rattle.format.specs.Slot.{byte, Fits}
 use Rattle.format.specs.Number.{Order, msf, lsf, num, numSlots}
 use Rattle.format.specs.Grammar.{textAt, textSlots}
 use Rattle.format.specs.Edition.{Release, r113, r114, r117, edition, orderMark}
@@ -16,8 +16,8 @@ use Rattle.format.specs.Dta.{Layout}
 use Rattle.format.proofs.SlotLaws.{fits-bound, length-tab}
 use Rattle.format.proofs.NumberLaws.{num-read}
 use Rattle.format.proofs.Good.{and-left, and-right, text-length}
-use Rattle.questions.specs.Readings.{Try, none, got, bind, test, room, numberIn, textNeeds, textIn}
-use Rattle.questions.specs.Ask.{Question, Answer, refused, slice, inRange, among, orRefused, answerIn, answerOf}
+use Rattle.questions.specs.Readings.{got, room, numberIn, textNeeds, textIn}
+use Rattle.questions.specs.Ask.{Question, refused, slice, inRange, among, orRefused, answerIn, answerOf}
 
 -- ---- numbers
 

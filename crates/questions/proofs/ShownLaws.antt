@@ -1,8 +1,8 @@
 -- The bytes that a fact names are the dataset's.
-use mathlib.Core.Path.{_≡_, refl, sym, ap, _∙_, subst}
-use Prim.Native.Nat.{ℕ, zero, suc, _+_, _-_, _*_, _/_, _%_, _≤_, _<_}
+use mathlib.Core.Path.{_≡_, refl, ap}
+use Prim.Native.Nat.{ℕ, _+_, _-_, _/_, _%_}
 use native.Mathlib.Omega.{arith}
-use mathlib.Core.List.{List, [], _∷_, _++_}
+use mathlib.Core.List.{List, [], _∷_}
 use mathlib.Core.Bool.{Bool, true, false, cond, _&&_}
 use lib.ListN.{length, getD}
 use lib.Dec.{eqb, leb, ltb}
@@ -15,23 +15,23 @@ use Rattle.format.specs.Edition.{Edition, opening, closing, n-lbl}
 use Rattle.format.specs.Variables.{VarType, textType, strLType, byteType, intType, longType, floatType, doubleType}
 use Rattle.format.specs.Data.{Cell, bitsOf, charsOf, linkOf, LongString, longRecord}
 use Rattle.format.specs.Labels.{Table, tableSize, LabelBlock, block}
-use Rattle.format.specs.Cells.{Says, whole, single, double, letter, between, outside, saysWhole, saysReal, saysFloat, saysDouble, signedBy, keyOf}
-use Rattle.format.specs.Search.{found, missing, lost, search}
+use Rattle.format.specs.Cells.{Says, whole, single, double, letter, between, outside, saysWhole, saysReal, signedBy, keyOf}
+use Rattle.format.specs.Search.{found, missing, lost}
 use Rattle.format.specs.Search as Search
 use Rattle.format.specs.Dta.{sameList}
 use Rattle.format.proofs.SlotLaws.{fits-left}
 use Rattle.format.proofs.Good.{text-read, good-right}
 use Rattle.format.proofs.DataLaws.{record-good}
 use Rattle.format.proofs.LabelLaws.{block-good}
-use Rattle.questions.specs.Readings.{Try, none, got}
+use Rattle.questions.specs.Readings.{Try, got}
 use Rattle.questions.specs.Ask.{Answer, long, shown, shownBy, orRefused, headSize, recordHead}
 use Rattle.questions.specs.Fact.{cellSays, slotFact, wordsFact, blocksFact, recordsFact, longFact, cellBytes, recordsBytes, longBytes, slotBytes, blocksBytes}
 use Rattle.questions.proofs.ReadLaws.{text-part, text-room}
 use Rattle.questions.proofs.CellLaws.{CellFits}
-use Rattle.questions.proofs.LongLaws.{long-size, LongFacts, long-facts}
-use Rattle.questions.proofs.SearchLaws.{Ends, search-ends}
+use Rattle.questions.proofs.LongLaws.{long-size, long-facts}
+use Rattle.format.proofs.SearchLaws.{Ends, search-ends}
 use Rattle.questions.proofs.TableLaws.{TableFacts, labelled}
-use Rattle.questions.proofs.WordLaws.{BlockFacts, block-facts}
+use Rattle.questions.proofs.WordLaws.{block-facts}
 
 -- ---- cells
 

@@ -1,20 +1,20 @@
 -- With its own layout an accepted file answers: nothing that is needed lies outside it, and each reference has its record.
 use mathlib.Core.Path.{_≡_, refl, sym, ap, _∙_, subst}
-use Prim.Native.Nat.{ℕ, zero, suc, _+_, _-_, _*_, _≤_, _<_}
+use Prim.Native.Nat.{ℕ, zero, suc, _+_, _-_}
 use native.Mathlib.Nat.{add-zero}
 use native.Mathlib.Omega.{arith}
 use mathlib.Core.List.{List, [], _∷_, _++_}
-use mathlib.Core.Bool.{Bool, true, false, cond, not, _&&_, _||_, true≢false}
+use mathlib.Core.Bool.{Bool, true, false, cond, _&&_, _||_, true≢false}
 use mathlib.Core.Logic.{_⊎_, inl, inr}
 use lib.ListN.{length, getD}
 use lib.Dec.{eqb, leb, ltb}
 use lib.IntN.{ℤ}
 use borrow.Author.Tests.{eqb-true, eq-eqb}
 use Rattle.format.specs.Number.{Order}
-use Rattle.format.specs.Grammar.{Sect, tag}
+use Rattle.format.specs.Grammar.{tag}
 use Rattle.format.specs.Edition.{Edition, opening, closing, n-lbl}
 use Rattle.format.specs.Variables.{VarType, textType, strLType, byteType, intType, longType, floatType, doubleType}
-use Rattle.format.specs.Data.{Cell, bits, chars, link, linkOf, cell, LongString, nth, isLink, namesItself, linkRule, rowLinks, dataLinks, rowSelves, dataSelves, kindRule, recordRule, linked, strls}
+use Rattle.format.specs.Data.{Cell, bits, link, linkOf, cell, LongString, nth, isLink, namesItself, linkRule, rowLinks, dataLinks, rowSelves, dataSelves, kindRule, recordRule, linked, strls}
 use Rattle.format.specs.Labels.{Table, tableSize, LabelBlock}
 use Rattle.format.specs.Cells.{signedBy, Key, nothing, seeks}
 use Rattle.format.specs.Search.{found, missing, lost}
@@ -27,7 +27,7 @@ use Rattle.questions.specs.Readings.{Try, none, got}
 use Rattle.questions.specs.Ask.{Answer, refused, count, mark, typed, part, column, plain, long, orRefused, headSize, recordHead}
 use Rattle.questions.specs.Ask as Ask
 use Rattle.questions.specs.Fact.{cellSays, slotFact, wordsFact, blocksFact, soughtFact, recordsFact, longFact}
-use Rattle.questions.proofs.SearchLaws.{Ends, search-ends}
+use Rattle.format.proofs.SearchLaws.{Ends, search-ends}
 use Rattle.questions.proofs.ShownLaws.{byte-bare, int-bare, long-bare, float-bare, double-bare}
 
 -- the answer is no refusal

@@ -1,30 +1,30 @@
 -- Label tables of an accepted file: the search, and the label found.
 use mathlib.Core.Path.{_≡_, refl, sym, ap, _∙_, subst}
-use Prim.Native.Nat.{ℕ, zero, suc, _+_, _-_, _*_, _/_, _^_, _≤_, _<_}
+use Prim.Native.Nat.{ℕ, zero, suc, _+_, _-_, _*_, _≤_, _<_}
 use native.Mathlib.Nat.{add-suc, not-suc-le-zero, le-of-suc-le-suc}
 use native.Mathlib.Omega.{arith}
 use mathlib.Core.List.{List, [], _∷_, _++_}
-use mathlib.Core.Bool.{Bool, true, false, cond, not, _&&_, _||_}
+use mathlib.Core.Bool.{Bool, true, false, not, _&&_}
 use lib.ListN.{length, getD}
 use lib.Dec.{eqb, leb, ltb}
 use lib.IntN.{ℤ}
-use borrow.Author.Tests.{eqb-true, eqb-false, eq-eqb, le-leb, ltb-true, lt-ltb}
-use Rattle.format.specs.Slot.{Slot, byte, Fits}
-use Rattle.format.specs.Number.{Order, num, numSlots, tab}
-use Rattle.format.specs.Grammar.{Sect, number, textAt, member, allBelow, pastZero, live, AreaRight, area, allSlots, AllRight}
+use borrow.Author.Tests.{eqb-false, eq-eqb, le-leb, ltb-true, lt-ltb}
+use Rattle.format.specs.Slot.{Slot, Fits}
+use Rattle.format.specs.Number.{Order, num, numSlots}
+use Rattle.format.specs.Grammar.{number, textAt, member, allBelow, live, AreaRight, area, allSlots, AllRight}
 use Rattle.format.specs.Labels.{Table, tableHead, tableBody, table, tableSize}
 use Rattle.format.specs.Cells.{signedBy}
-use Rattle.format.specs.Search.{found, missing, lost, Searched, search, valueAt, searchAt}
+use Rattle.format.specs.Search.{found, missing, lost, Searched, valueAt, searchAt}
 use Rattle.format.specs.Search as Search
 use Rattle.format.proofs.SlotLaws.{fits-left, fits-right, fits-after, fits-bound, length-tab, tab-at}
-use Rattle.format.proofs.Good.{Good, and-left, and-right, number-good, all-sized, Element, element}
+use Rattle.format.proofs.Good.{and-left, and-right, number-good, all-sized, element}
 use Rattle.format.proofs.AreaLaws.{or-right, past-gives, member-live, slot-taken}
 use Rattle.format.proofs.LabelLaws.{numbers-wide}
-use Rattle.questions.specs.Readings.{Try, none, got, bind, test, room, numberIn, textIn}
-use Rattle.questions.specs.Ask.{Answer, part, plain, slice, entryIn, slotIn, tableIn}
+use Rattle.questions.specs.Readings.{got, numberIn, textIn}
+use Rattle.questions.specs.Ask.{slice, slotIn, tableIn}
 use Rattle.questions.specs.Fact.{labelAt, slotFact, wordsFact}
 use Rattle.questions.proofs.ReadLaws.{number-in, number-is, text-in, text-part}
-use Rattle.questions.proofs.SearchLaws.{search-same, Ends, search-ends}
+use Rattle.format.proofs.SearchLaws.{search-same, Ends, search-ends}
 
 -- ---- a label in the text area
 

@@ -8,15 +8,15 @@ use mathlib.Core.Bool.{true, false}
 use lib.ListN.{length, getD}
 use lib.IntN.{ℤ}
 use Rattle.format.specs.Slot.{Bytes}
-use Rattle.format.specs.Labels.{Table}
+use Rattle.format.specs.Labels.{Table, LabelBlock}
 use Rattle.format.specs.Cells.{signedBy}
 use Rattle.format.specs.Search.{found}
-use Rattle.format.specs.Dta.{layoutOf, verdict, contents, deadIn, orderOf, editionOf}
-use Rattle.questions.specs.Readings.{Try, got}
-use Rattle.questions.specs.Ask.{Question, Answer, refused, shown, inRange, answerOf}
+use Rattle.format.specs.Dta.{layoutOf, verdict, contents, datasetOf, deadIn, orderOf, editionOf}
+use Rattle.questions.specs.Readings.{got}
+use Rattle.questions.specs.Ask.{Question, refused, shown, inRange, answerOf}
 use Rattle.questions.specs.Fact.{slotFact, factIn, factOf, bytesOf}
 use Rattle.questions.proofs.OwnLaws as OwnLaws
-use Rattle.questions.proofs.SearchLaws.{Ends, search-ends}
+use Rattle.format.proofs.SearchLaws.{Ends, search-ends}
 use Rattle.questions.proofs.SomeLaws.{Answered}
 
 -- 1. An accepted file, asked by its own layout, answers each question as its dataset does.
@@ -54,3 +54,10 @@ pub label-exact : (q : ℤ) (t : Table) (m : ℕ) → slotFact q t ≡ found m �
 label-exact q t m e =
     let v : ℕ → ℤ = λ i. signedBy 2147483648 (getD (t .values) i 0) in
     subst (Ends v q (length (t .offsets))) e (search-ends v q (length (t .offsets)))
+
+-- 7. .. and for each value that it has: in a label table of an accepted file the search for the value of a slot ends at that slot. (Block i of
+-- the file, counted from 0; z stands for none.)
+pub label-found : (f : List ℕ) → Bytes f → verdict f ≡ 0 → (z : LabelBlock) (i : ℕ) → i < length (datasetOf f .labelBlocks)
+    → let t = getD (datasetOf f .labelBlocks) i z .entries in
+    (m : ℕ) → m < length (t .offsets) → slotFact (signedBy 2147483648 (getD (t .values) m 0)) t ≡ found m
+label-found = OwnLaws.label-found

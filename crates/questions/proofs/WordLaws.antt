@@ -1,25 +1,24 @@
 -- Label blocks of an accepted file.
-use mathlib.Core.Path.{_≡_, refl, sym, ap, _∙_, subst}
-use Prim.Native.Nat.{ℕ, zero, suc, _+_, _-_, _*_, _^_, _≤_, _<_}
+use mathlib.Core.Path.{_≡_, ap, _∙_}
+use Prim.Native.Nat.{ℕ, zero, suc, _+_, _-_, _≤_, _<_}
 use native.Mathlib.Omega.{arith}
 use mathlib.Core.List.{List, [], _∷_, _++_, map}
-use mathlib.Core.Bool.{Bool, true, false, cond}
-use lib.ListN.{length, getD, replicate, length-map, length-append, length-replicate}
-use lib.Dec.{leb, ltb}
+use mathlib.Core.Bool.{Bool, cond}
+use lib.ListN.{length, replicate, length-map, length-append}
 use lib.IntN.{ℤ}
 use borrow.Author.Tests.{le-leb, lt-ltb, le-ltb}
-use Rattle.format.specs.Slot.{Slot, byte, spare, Fits}
+use Rattle.format.specs.Slot.{byte, spare, Fits}
 use Rattle.format.specs.Number.{Order, numSlots}
 use Rattle.format.specs.Grammar.{Sect, textSlots, tag, done, allSlots, sizes, AllRight}
 use Rattle.format.specs.Edition.{Edition, opening, closing, n-value-labels, n-stata-dta, n-lbl}
 use Rattle.format.specs.Variables.{name}
 use Rattle.format.specs.Labels.{Table, table, tableHead, tableBody, tableSize, LabelBlock, blockHead, block, blocks}
 use Rattle.format.specs.Dta.{sameList}
-use Rattle.format.proofs.SlotLaws.{fits-left, fits-right, fits-after, fits-bound, length-tab}
-use Rattle.format.proofs.Good.{Good, text-read, text-length, good-bound, good-right}
+use Rattle.format.proofs.SlotLaws.{fits-left, fits-right, fits-after, fits-bound}
+use Rattle.format.proofs.Good.{text-read, text-length, good-bound, good-right}
 use Rattle.format.proofs.LabelLaws.{block-good, numbers-wide}
-use Rattle.questions.specs.Readings.{Try, none, got, bind, test, room, numberIn, textIn}
-use Rattle.questions.specs.Ask.{Answer, plain, headSize, blockIn, blocksIn, tableIn}
+use Rattle.questions.specs.Readings.{Try, got, numberIn, textIn}
+use Rattle.questions.specs.Ask.{Answer, headSize, blocksIn}
 use Rattle.questions.specs.Fact.{slotFact, wordsFact, blocksFact}
 use Rattle.questions.proofs.ReadLaws.{number-is, text-in, text-room}
 use Rattle.questions.proofs.TableLaws.{TableFacts, table-facts, table-at}

@@ -1,16 +1,13 @@
 -- The search, a turn at a time. Assumes nothing.
 use mathlib.Core.Path.{_≡_, refl, _∙_}
 use mathlib.Core.Bool.{Bool, true, false}
-use Prim.Native.Nat.{ℕ, zero, suc, _+_, _-_, _/_, _<_, _≤_}
+use Prim.Native.Nat.{ℕ, zero, suc, _+_, _-_, _<_, _≤_}
 use native.Mathlib.Omega.{arith}
 use borrow.Author.Tests.{lt-ltb, le-ltb}
 use lib.IntN.{ℤ}
 use lib.Signed.{ltZ}
+use Rattle.format.proofs.SearchLaws.{middle}
 use Rattle.format.specs.Search.{Slot, found, missing, lost, sameZ, halve}
-
--- where a turn looks
-abbrev pub middle : ℕ → ℕ → ℕ
-middle lo hi = (lo + (hi - 1)) / 2
 
 -- a search that ends at s has come to the values from lo on, below hi
 pub record Left (v : ℕ → ℤ) (there : ℕ → Bool) (x : ℤ) (s : Slot) (lo hi : ℕ) : Type 0 where

@@ -10,8 +10,9 @@ use mir.Val.{toZ, ofZ}
 use mir.ValLaws.{toZ-ofZ}
 use Rattle.format.specs.Number.{orderBy}
 use Rattle.format.specs.Search.{Slot, valueAt, searchAt, sameZ}
-use Rattle.search.proofs.SignedLaws.{same-yes, same-no}
-use Rattle.search.proofs.TurnLaws.{Left, middle, none, gone, here, below, above}
+use Rattle.format.proofs.OrderLaws.{same-yes, same-no}
+use Rattle.format.proofs.SearchLaws.{middle}
+use Rattle.search.proofs.TurnLaws.{Left, none, gone, here, below, above}
 use borrow.Author.Needs.{needs}
 use Rattle.search.proofs.find_value.Statement.{statement}
 use Rattle.search.proofs.find_value.Tie as tie

@@ -1,0 +1,163 @@
+use editions::Edition;
+ghost use mathlib.Core.Path.{_≡_};
+ghost use mathlib.Core.Bool.{cond};
+ghost use Prim.Native.Nat.{_+_, _*_, _≤_};
+ghost use lib.ListN.{length};
+ghost use lib.Dec.{leb};
+ghost use Rattle.format.specs.Number.{orderBy};
+ghost use Rattle.questions.specs.Ask.{among};
+ghost use Rattle.reading.specs.Reads.{tryOf, noRead, NumberRead, lengthIn, placeIn, isRelease, isOrder, openedBy, editionIn};
+
+// What a reading says: a number, where all that it needs is in the file.
+pub struct Read {
+    pub there: bool,
+    pub value: u64,
+}
+
+// An edition and a byte order, where both are read; then the edition's numbers.
+pub struct Opened {
+    pub there: bool,
+    pub msf: bool,
+    pub e: Edition,
+}
+
+fn no_read() -> Read
+    ensures { λ r. ⌜ r ≡ noRead ⌝ }
+{
+    Read {
+        there: false,
+        value: 0,
+    }
+}
+
+// The number of `w` bytes at `p`, most significant byte first where `msf`, else last.
+pub fn number_in(f: &[u8], p: u64, w: usize, msf: bool) -> Read
+    requires { ⌜ w ≤ 8 ⌝ }
+    ensures { λ r. ⌜ NumberRead (orderBy msf) w (now (f .entry)) p r ⌝ }
+{
+    let q = p as usize;
+    if f.len() < q {
+        return no_read();
+    }
+    if f.len() - q < w {
+        return no_read();
+    }
+    let value = number::number(f, q, w, msf);
+    Read { there: true, value }
+}
+
+// The length of the text in the field of `w` bytes at `p`: only its bytes up to and with its first zero, or its whole width, are needed.
+pub fn text_in(f: &[u8], p: u64, w: usize) -> Read
+    ensures { λ r. ⌜ tryOf r ≡ lengthIn w (now (f .entry)) p ⌝ }
+{
+    let q = p as usize;
+    if f.len() < q {
+        return no_read();
+    }
+    let m = least(w, f.len() - q);
+    let n = text::text_len(f, q, m);
+    if n == m {
+        if m < w {
+            return no_read();
+        }
+    }
+    Read {
+        there: true,
+        value: n as u64,
+    }
+}
+
+fn least(a: usize, b: usize) -> usize
+    ensures { λ r. ⌜ r ≡ cond (leb a b) a b ⌝ }
+{
+    if a <= b { a } else { b }
+}
+
+// Whether `index * width` is at most `n`.
+fn product_within(n: u64, index: u64, width: u64) -> bool
+    ensures { λ r. ⌜ r ≡ leb (index * width) n ⌝ }
+{
+    if width == 0 {
+        return true;
+    }
+    index <= n / width
+}
+
+// The place `start + gap + index * width`, where it is not past the end of the file.
+pub fn place_in(f: &[u8], start: u64, gap: u64, index: u64, width: u64) -> Read
+    ensures { λ r. ⌜ tryOf r ≡ placeIn (now (f .entry)) (start + gap + index * width) ⌝ }
+{
+    let n = f.len() as u64;
+    if n < start {
+        return no_read();
+    }
+    let a = n - start;
+    if a < gap {
+        return no_read();
+    }
+    if product_within(a - gap, index, width) {
+        return Read {
+            there: true,
+            value: start + gap + index * width,
+        };
+    }
+    no_read()
+}
+
+// Whether `number` is an edition that is read.
+fn is_release(number: u64) -> bool
+    ensures { λ r. ⌜ r ≡ isRelease number ⌝ }
+{
+    match number {
+        113 => true,
+        114 => true,
+        117 => true,
+        _ => false,
+    }
+}
+
+// Whether `order` is a byte order.
+fn is_order(order: u64) -> bool
+    ensures { λ r. ⌜ r ≡ isOrder order ⌝ }
+{
+    match order {
+        1 => true,
+        2 => true,
+        _ => false,
+    }
+}
+
+// The edition `number` and the byte order `order` of a layout, where both are read.
+pub fn edition_in(number: u64, order: u64) -> Opened
+    ensures { λ r. ⌜ openedBy r ≡ editionIn number order ⌝ }
+{
+    if is_release(number) {
+        return Opened {
+            there: is_order(order),
+            msf: order == 1,
+            e: editions::numbers_of(number as u8),
+        };
+    }
+    Opened {
+        there: false,
+        msf: false,
+        e: editions::numbers_of(117),
+    }
+}
+
+// Whether `i` is one of 1..`k`.
+pub fn is_among(i: u64, k: u64) -> bool
+    ensures { λ r. ⌜ r ≡ among i k ⌝ }
+{
+    if i == 0 {
+        return false;
+    }
+    i <= k
+}
+
+// How many bytes a tag of `n` bytes has in an edition that is tagged or not.
+pub fn tag_size(tagged: bool, n: u64) -> u64
+    ensures { λ r. ⌜ r ≡ cond tagged n 0 ⌝ }
+{
+    if tagged { n } else { 0 }
+}

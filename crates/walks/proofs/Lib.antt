@@ -1,0 +1,4 @@
+pub mod RecordLaws
+pub mod TextLaws
+pub mod TableLaws
+pub mod BlockLaws

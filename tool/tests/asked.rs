@@ -1,0 +1,36 @@
+//! The program `dta_ask`: its answers by files' own layouts, with the bytes that they name, and the independent ones; its stored run.
+
+use dta_tool::questions::numbers;
+use dta_tool::record::{difference, stored, Record, LONGEST};
+use dta_tool::{check, stated};
+use std::path::Path;
+
+/// Most variables and observations of a file that are asked.
+const MOST: u64 = 40;
+
+#[test]
+fn every_stated_file_answers_alike() {
+    let mut records = Vec::new();
+    let files = stated::all().into_iter().map(|stated| stated.file);
+    for file in files.filter(|file| file.len() <= LONGEST) {
+        let Ok(layout) = check(&file) else { continue };
+        let layout = numbers(&layout);
+        // Some that are not there, too.
+        for i in 0..=(layout[2] + 1).min(MOST) {
+            for j in 0..=(layout[3] + 1).min(MOST) {
+                let file = file.clone();
+                records.push(Record { file, layout, i, j });
+            }
+        }
+    }
+    assert!(records.len() > 1_000, "{} records", records.len());
+    assert_eq!(difference(&records), None);
+}
+
+#[test]
+fn the_stored_run_is_due() {
+    let folder = Path::new(env!("CARGO_MANIFEST_DIR")).join("../crates/dta_ask");
+    let (sent, due) = stored();
+    assert!(std::fs::read(folder.join("stdin")).unwrap() == sent);
+    assert!(std::fs::read(folder.join("stdout")).unwrap() == due);
+}
