@@ -7,7 +7,7 @@ use std::path::Path;
 use std::process::{Command, Stdio};
 
 /// The longest file of a record.
-pub const LONGEST: usize = 65_536;
+pub const LONGEST: usize = 262_144;
 
 /// A file, a layout, a variable and an observation.
 pub struct Record {

@@ -5,19 +5,20 @@ use dta_tool::record::{difference, stored, Record, LONGEST};
 use dta_tool::{check, stated};
 use std::path::Path;
 
-/// Most variables and observations of a file that are asked.
-const MOST: u64 = 40;
+/// More observations than a stated file has.
+const MOST: u64 = 100;
 
 #[test]
 fn every_stated_file_answers_alike() {
     let mut records = Vec::new();
-    let files = stated::all().into_iter().map(|stated| stated.file);
-    for file in files.filter(|file| file.len() <= LONGEST) {
+    for file in stated::all().into_iter().map(|stated| stated.file) {
+        assert!(file.len() <= LONGEST, "a file of {} bytes", file.len());
         let Ok(layout) = check(&file) else { continue };
         let layout = numbers(&layout);
         // Some that are not there, too.
-        for i in 0..=(layout[2] + 1).min(MOST) {
-            for j in 0..=(layout[3] + 1).min(MOST) {
+        assert!(layout[3] < MOST, "{} observations", layout[3]);
+        for i in 0..=layout[2] + 1 {
+            for j in 0..=layout[3] + 1 {
                 let file = file.clone();
                 records.push(Record { file, layout, i, j });
             }

@@ -1,5 +1,5 @@
 // Asks questions about files and writes a line for each answer. On standard input are records: twenty-one numbers of eight bytes, least significant
-// byte first, and a file of at most 65,536 bytes. The numbers are the file's length, the eighteen of a layout, a variable and an observation. Each record is answered with a line for each question, in the order of `ask_all`.
+// byte first, and a file of at most 262,144 bytes. The numbers are the file's length, the eighteen of a layout, a variable and an observation. Each record is answered with a line for each question, in the order of `ask_all`.
 
 use cell::Cell;
 use checking::Layout;
@@ -258,7 +258,7 @@ fn answer(file: &mut [u8], head: &[u8]) {
 
 // Answers the records, at most a billion.
 fn main() {
-    let mut file = io::large_buffer();
+    let mut file = [0u8; 262144];
     let mut head = [0u8; 168];
     let mut left: u64 = 1000000000;
     while 0 < left {

@@ -8,18 +8,13 @@ use Rattle.dta_ask.proofs.main.Tie as tie
 use Rattle.dta_ask.proofs.main.Reads as reads
 use Rattle.dta_ask.proofs.main.Lts as lts
 use Rattle.dta_ask.proofs.answer.Reads as answer-reads
-use Rattle.io.proofs.large_buffer.Reads as large-buffer-reads
 use Rattle.io.proofs.read_full.Reads as read-full-reads
 
 abbrev Inv-loop : tie.InvT-loop
-Inv-loop file₀ head₀ left₀ file head left = (length file ≡ 65536) × (length head ≡ 168)
+Inv-loop file₀ head₀ left₀ file head left = (length file ≡ 262144) × (length head ≡ 168)
 
 abbrev μ-loop : tie.MeasureT-loop
 μ-loop file₀ head₀ left₀ file head left = left
-
--- src/main.rt:237:20
-large-buffer-requires : tie.Need-large-buffer-requires Inv-loop μ-loop
-large-buffer-requires c κs = search needs
 
 -- src/main.rt:240:5
 loop-holds : tie.Need-loop-holds Inv-loop μ-loop
@@ -71,7 +66,6 @@ main-spec =
     (tie.spec
     Inv-loop
     μ-loop
-    large-buffer-requires
     loop-holds
     slice-aggregate-read-full
     read-full-requires
