@@ -1,5 +1,5 @@
 -- A question that asks for the cell first.
-use mathlib.Core.Path.{_≡_, refl, sym, ap, _∙_, subst}
+use mathlib.Core.Path.{_≡_, refl, sym, ap, _∙_}
 use Prim.Native.Nat.{ℕ}
 use mathlib.Core.List.{List}
 use mathlib.Core.Bool.{Bool, true, false, cond, false≢true}
@@ -13,6 +13,19 @@ use Rattle.questions.specs.Ask.{Question, Answer, refused, count, mark, typed, 
 use Rattle.reading.specs.declared.Opened.{Opened}
 use Rattle.reading.specs.Reads.{openedBy, editionIn}
 use Rattle.reading.proofs.AnswerLaws.{answer-out, answer-shut, answer-open}
+use borrow.Author.Tests.{eq-eqb, ne-eqb}
+use Rattle.cell.specs.Cells.{says}
+use Rattle.cells.specs.declared.Said.{Said}
+use Rattle.cells.specs.Cells.{saidOf}
+
+-- what an answer about a cell says, by its number
+pub said-of : (r : Said) (a : Answer) → r .code ≡ 0 → saidOf r ≡ a → cell (says (r .cell)) ≡ a
+said-of r a z e = sym (ap (λ (b : Bool). cond b (cell (says (r .cell))) (refused (r .code))) (eq-eqb (r .code) 0 z)) ∙ e
+
+pub said-refused : (r : Said) (a : Answer) → (r .code ≡ 0 → ⊥) → saidOf r ≡ a → refused (r .code) ≡ a
+said-refused r a z e = sym (ap (λ (b : Bool). cond b (cell (says (r .cell))) (refused (r .code))) (ne-eqb (r .code) 0 z)) ∙ e
+
+-- ---- the question
 
 -- an answer is a refusal
 abbrev isRefused : Answer → Bool

@@ -32,11 +32,11 @@ use Rattle.reading.specs.declared.Opened.{Opened}
 use Rattle.reading.specs.Reads.{tryOf, lengthIn, openedBy, editionIn}
 use Rattle.reading.proofs.ReadLaws.{room-got, room-none}
 use Rattle.reading.proofs.AnswerLaws.{answer-out, answer-shut, answer-open, edition-got}
-use Rattle.cells.specs.declared.Column.{Column}
+use Rattle.columns.specs.declared.Column.{Column}
 use Rattle.cells.specs.declared.Said.{Said}
-use Rattle.cells.specs.Columns.{capped, noColumn, columnBy}
+use Rattle.columns.specs.Columns.{capped, noColumn, columnBy}
 use Rattle.cells.specs.Cells.{saidOf, noSaid, Saids, isText, cellSaid}
-use Rattle.cells.proofs.ColumnLaws.{capped-le, capped-is, among-in, consed, type-is}
+use Rattle.columns.proofs.ColumnLaws.{capped-le, capped-is, among-in, consed, type-is}
 
 -- ---- answers
 

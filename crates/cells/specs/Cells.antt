@@ -4,18 +4,15 @@ use Prim.Native.Nat.{ℕ}
 use mathlib.Core.List.{List}
 use mathlib.Core.Bool.{Bool, true, false, cond}
 use lib.Dec.{eqb}
-use lib.IntN.{ℤ}
 use Rattle.format.specs.Number.{Order}
 use Rattle.format.specs.Edition.{Edition}
 use Rattle.format.specs.Variables.{VarType, textType}
-use Rattle.format.specs.Cells.{Says}
-use Rattle.format.specs.Dta.{Layout}
 use Rattle.codes.specs.declared.Kind.{Kind}
 use Rattle.codes.specs.declared.Kind.the-variants.{Text, StrL, Byte, Int, Long, Float, Double, Unknown}
 use Rattle.cell.specs.declared.Cell.the-variants.{Outside}
 use Rattle.cell.specs.Cells.{says, Lettered}
 use Rattle.questions.specs.Readings.{bind, got}
-use Rattle.questions.specs.Ask.{Answer, refused, cell, orRefused, cellAt, longBy, setWords, answerOf, askWords}
+use Rattle.questions.specs.Ask.{Answer, refused, cell, orRefused, cellAt}
 use Rattle.cells.specs.declared.Said.{Said}
 
 -- the answer that a cell's content is: a refusal by its number, or what the cell says
@@ -50,19 +47,3 @@ cellSaid e o f t p = orRefused (bind (cellAt e o f t p) λ s. got (cell s))
 -- r is the answer for the text of w bytes at p, in any edition and order
 abbrev pub TextSaid : ℕ → List ℕ → ℕ → Said → Type 0
 TextSaid w f p r = (e : Edition) (o : Order) → Saids (cellSaid e o f (textType w) p) r
-
--- ---- long strings
-
--- the answer for the long string that a cell means
-unfoldable pub longSaid : Edition → Order → List ℕ → Layout → Says → Answer
-longSaid e o f l s = orRefused (longBy e o f l s)
-
--- ---- label words, for every lent text
-
--- for the value q of variable i
-unfoldable pub setSaid : Edition → Order → List ℕ → Layout → ℕ → ℤ → List ℕ → Answer
-setSaid e o f l i q lent = orRefused (setWords e o f l i lent q)
-
--- of cell i, j
-abbrev pub wordsAsked : List ℕ → Layout → ℕ → ℕ → List ℕ → Answer
-wordsAsked f l i j lent = answerOf f l (askWords i j lent)

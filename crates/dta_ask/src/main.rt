@@ -24,7 +24,7 @@ fn refused(code: u8) -> bool {
 }
 
 // The line of a number.
-fn number_line(r: facts::Number) {
+fn number_line(r: answers::Number) {
     if refused(r.code) {
         return;
     }
@@ -33,7 +33,7 @@ fn number_line(r: facts::Number) {
 }
 
 // The line of a yes or no.
-fn mark_line(r: facts::Mark) {
+fn mark_line(r: text_facts::Mark) {
     if refused(r.code) {
         return;
     }
@@ -62,7 +62,7 @@ fn say_type(kind: Kind, width: usize) {
 }
 
 // The line of a type.
-fn type_line(r: facts::Typed) {
+fn type_line(r: variable_facts::Typed) {
     if refused(r.code) {
         return;
     }
@@ -72,19 +72,19 @@ fn type_line(r: facts::Typed) {
 }
 
 // The line of a part of the file: place, length and bytes.
-fn part_line(f: &[u8], r: facts::Part) {
+fn part_line(f: &[u8], r: answers::Part) {
     if refused(r.code) {
         return;
     }
     printing::say(b"text ");
     say_number(r.at);
     say_number(r.len);
-    printing::say(facts::part_of(f, r.code, r.at, r.len));
+    printing::say(answers::part_of(f, r.code, r.at, r.len));
     printing::say(b"\n");
 }
 
 // The line of a column.
-fn column_line(r: cells::Column) {
+fn column_line(r: columns::Column) {
     if refused(r.code) {
         return;
     }
@@ -101,7 +101,7 @@ fn say_words(f: &[u8], p: u64, n: u64) {
     printing::say(b"text ");
     say_number(p);
     say_number(n);
-    printing::say(facts::part_of(f, 0, p, n));
+    printing::say(answers::part_of(f, 0, p, n));
 }
 
 // Writes what a cell says.
@@ -153,13 +153,13 @@ fn long_line(f: &[u8], r: walks::Long) {
     say_number(r.kind as u64);
     say_number(r.at);
     say_number(r.len);
-    printing::say(facts::part_of(f, r.code, r.at, r.len));
+    printing::say(answers::part_of(f, r.code, r.at, r.len));
     printing::say(b"\n");
 }
 
 // The line of label words; the plain text is `plain`.
 fn words_line(f: &[u8], l: Layout, i: u64, j: u64) {
-    let r = cells::label_words(f, l, i, j);
+    let r = label_words::label_words(f, l, i, j);
     if refused(r.code) {
         return;
     }
@@ -170,36 +170,36 @@ fn words_line(f: &[u8], l: Layout, i: u64, j: u64) {
     } else {
         printing::say(b"plain ");
     }
-    printing::say(cells::words(f, b"plain", l, i, j));
+    printing::say(label_words::words(f, b"plain", l, i, j));
     printing::say(b"\n");
 }
 
 // The lines of the header facts.
 fn ask_header(f: &[u8], l: Layout) {
-    number_line(facts::edition(l));
-    number_line(facts::order(l));
-    number_line(facts::variables(l));
-    number_line(facts::rows(l));
-    part_line(f, facts::label(f, l));
-    part_line(f, facts::stamp(f, l));
+    number_line(header_facts::edition(l));
+    number_line(header_facts::order(l));
+    number_line(header_facts::variables(l));
+    number_line(header_facts::rows(l));
+    part_line(f, header_facts::label(f, l));
+    part_line(f, header_facts::stamp(f, l));
 }
 
 // The lines of a variable's facts.
 fn ask_variable(f: &[u8], l: Layout, i: u64) {
-    type_line(facts::var_type(f, l, i));
-    part_line(f, facts::name(f, l, i));
-    part_line(f, facts::format(f, l, i));
-    part_line(f, facts::set_name(f, l, i));
-    part_line(f, facts::var_label(f, l, i));
-    mark_line(facts::date_mark(f, l, i));
-    number_line(facts::sort_place(f, l, i));
-    column_line(cells::column_of(f, l, i));
+    type_line(variable_facts::var_type(f, l, i));
+    part_line(f, text_facts::name(f, l, i));
+    part_line(f, text_facts::format(f, l, i));
+    part_line(f, text_facts::set_name(f, l, i));
+    part_line(f, text_facts::var_label(f, l, i));
+    mark_line(text_facts::date_mark(f, l, i));
+    number_line(variable_facts::sort_place(f, l, i));
+    column_line(columns::column_of(f, l, i));
 }
 
 // The lines of a cell's facts.
 fn ask_cell(f: &[u8], l: Layout, i: u64, j: u64) {
     cell_line(f, cells::cell_of(f, l, i, j));
-    long_line(f, cells::long_string(f, l, i, j));
+    long_line(f, long_strings::long_string(f, l, i, j));
     words_line(f, l, i, j);
 }
 

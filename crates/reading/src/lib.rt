@@ -1,7 +1,7 @@
 use editions::Edition;
 ghost use mathlib.Core.Path.{_≡_};
 ghost use mathlib.Core.Bool.{cond};
-ghost use Prim.Native.Nat.{_+_, _*_, _≤_};
+ghost use Prim.Native.Nat.{_+_, _-_, _*_, _≤_};
 ghost use lib.ListN.{length};
 ghost use lib.Dec.{leb};
 ghost use Rattle.format.specs.Number.{orderBy};
@@ -160,4 +160,11 @@ pub fn tag_size(tagged: bool, n: u64) -> u64
     ensures { λ r. ⌜ r ≡ cond tagged n 0 ⌝ }
 {
     if tagged { n } else { 0 }
+}
+
+// `a - b`, 0 where `b` is greater.
+pub fn less(a: u64, b: u64) -> u64
+    ensures { λ r. ⌜ (r ≡ a - b) × (a ≤ 18446744073709551615) ⌝ }
+{
+    if a < b { 0 } else { a - b }
 }

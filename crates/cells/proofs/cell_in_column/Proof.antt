@@ -14,10 +14,11 @@ use Rattle.reading.proofs.ReadLaws.{place-is, place-inside, place-past}
 use Rattle.reading.proofs.AnswerLaws.{edition-widths}
 use Rattle.checking.specs.Checks.{layoutBy}
 use Rattle.cells.specs.declared.Said.{Said}
-use Rattle.cells.specs.declared.Column.{Column}
-use Rattle.cells.specs.Columns.{capped}
+use Rattle.columns.specs.declared.Column.{Column}
+use Rattle.columns.specs.Columns.{capped}
 use Rattle.cells.specs.Cells.{Saids, cellSaid}
-use Rattle.cells.proofs.ColumnLaws.{among-in, start-is}
+use Rattle.columns.proofs.ColumnLaws.{among-in}
+use Rattle.reading.proofs.PlaceLaws.{start-is}
 use Rattle.cells.proofs.CellLaws.{said-none, cell-away, row-away, cell-none, stands, cell-past, far, far-off, near, kind-known, width-is}
 use borrow.Author.Needs.{needs}
 use borrow.Author.Needs.{needs}

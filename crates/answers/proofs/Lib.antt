@@ -1,0 +1,4 @@
+pub mod TellLaws
+pub mod PartLaws
+pub mod ShownLaws
+pub mod SameLaws

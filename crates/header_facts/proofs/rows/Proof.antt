@@ -1,0 +1,28 @@
+use borrow.Author.Needs.{needs}
+use mathlib.Core.Path.{refl}
+use Rattle.questions.specs.Ask.{askN}
+use Rattle.checking.specs.Checks.{layoutBy}
+use Rattle.answers.proofs.TellLaws.{tells-answer}
+use borrow.Author.Needs.{needs}
+use Rattle.header_facts.proofs.rows.Statement.{statement}
+use Rattle.header_facts.proofs.rows.Tie as tie
+use Rattle.header_facts.proofs.rows.Reads as reads
+use Rattle.header_facts.proofs.rows.Lts as lts
+use Rattle.header_facts.proofs.number_if.Reads as number-if-reads
+use Rattle.reading.proofs.edition_in.Reads as edition-in-reads
+
+-- src/lib.rt:149:9
+edition-in-requires : tie.Need-edition-in-requires
+edition-in-requires c κs = search needs
+
+-- src/lib.rt:150:5
+number-if-requires : tie.Need-number-if-requires
+number-if-requires c κs = search needs
+
+-- src/lib.rt:146:1
+returns : tie.Need-returns
+returns c =
+    λ f. tells-answer f (layoutBy (c .before .before .args .l)) askN (c .before .edition-in .result) (c .before .edition-in .ensures) _ refl _ refl (c .number-if .ensures)
+
+pub rows-spec : {M : Type 1} → statement M
+rows-spec = tie.close (tie.spec edition-in-requires number-if-requires returns)

@@ -1,0 +1,28 @@
+use borrow.Author.Needs.{needs}
+use mathlib.Core.Path.{refl}
+use Rattle.questions.specs.Ask.{askK}
+use Rattle.checking.specs.Checks.{layoutBy}
+use Rattle.answers.proofs.TellLaws.{tells-answer}
+use borrow.Author.Needs.{needs}
+use Rattle.header_facts.proofs.variables.Statement.{statement}
+use Rattle.header_facts.proofs.variables.Tie as tie
+use Rattle.header_facts.proofs.variables.Reads as reads
+use Rattle.header_facts.proofs.variables.Lts as lts
+use Rattle.header_facts.proofs.number_if.Reads as number-if-reads
+use Rattle.reading.proofs.edition_in.Reads as edition-in-reads
+
+-- src/lib.rt:141:9
+edition-in-requires : tie.Need-edition-in-requires
+edition-in-requires c κs = search needs
+
+-- src/lib.rt:142:5
+number-if-requires : tie.Need-number-if-requires
+number-if-requires c κs = search needs
+
+-- src/lib.rt:138:1
+returns : tie.Need-returns
+returns c =
+    λ f. tells-answer f (layoutBy (c .before .before .args .l)) askK (c .before .edition-in .result) (c .before .edition-in .ensures) _ refl _ refl (c .number-if .ensures)
+
+pub variables-spec : {M : Type 1} → statement M
+variables-spec = tie.close (tie.spec edition-in-requires number-if-requires returns)
