@@ -2,6 +2,7 @@
 //! The reader is written from the paper alone and serves only to test.
 
 pub mod damage;
+pub mod dataset;
 pub mod dead;
 pub mod generate;
 pub mod parts;
@@ -10,8 +11,11 @@ pub mod questions;
 pub mod random;
 pub mod reader;
 pub mod record;
+pub mod rounds;
 pub mod sketch;
+pub mod stand_in;
 pub mod stated;
+pub mod writer;
 pub mod wrong;
 
 pub use reader::{check, line, Layout};

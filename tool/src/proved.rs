@@ -63,4 +63,42 @@ pub fn line(file: &[u8]) -> String {
     line_of(&check(file), file.len())
 }
 
-// Questions.
+// Rewriting.
+
+extern "C" {
+    fn dta_rewrite(
+        file: *const u8,
+        file_len: usize,
+        edition: u64,
+        order: u64,
+        out: *mut u8,
+        out_len: usize,
+        len: *mut u64,
+        len_len: usize,
+    ) -> u8;
+}
+
+/// The number answered. The result's length is stored in the first place of `len`, where it has one.
+pub fn call_rewrite(file: &[u8], edition: u64, order: u64, out: &mut [u8], len: &mut [u64]) -> u8 {
+    // SAFETY: the parts are valid for the call and apart from each other, and the library keeps none.
+    unsafe {
+        dta_rewrite(
+            file.as_ptr(),
+            file.len(),
+            edition,
+            order,
+            out.as_mut_ptr(),
+            out.len(),
+            len.as_mut_ptr(),
+            len.len(),
+        )
+    }
+}
+
+/// The number answered and the length stored.
+pub fn rewrite(file: &[u8], edition: u64, order: u64, out: &mut [u8]) -> (u64, u64) {
+    // A length that the library doesn't store shows.
+    let mut len = [0x5a5a_5a5a_5a5a_5a5a];
+    let number = call_rewrite(file, edition, order, out, &mut len);
+    (u64::from(number), len[0])
+}

@@ -17,7 +17,7 @@ pub fn field_at(f: &[u8], types: usize, i: usize, tagged: bool, msf: bool) -> co
 }
 
 // The width of a row.
-fn row_width(f: &[u8], types: usize, k: usize, tagged: bool, msf: bool) -> usize
+pub fn row_width(f: &[u8], types: usize, k: usize, tagged: bool, msf: bool) -> usize
     requires { ⌜ Typed tagged (orderBy msf) (now f) types k ⌝ }
     ensures { λ r. ⌜ r ≡ offAt tagged (orderBy msf) (now (f .entry)) types k ⌝ }
 {

@@ -8,7 +8,7 @@ use mathlib.Core.List.{List, [], _∷_, _++_}
 use lib.ListN.{length, getD, set, take, drop}
 use borrow.Author.Tests.{le-leb, lt-leb}
 use Rattle.format.specs.Dta.{Layout}
-use Rattle.dta.specs.Exports.{numbers, laid}
+use Rattle.dta.specs.Exports.{numbers, laid, stored}
 use lib.Seq.{sets, sets-eq, length-sets, take-all}
 
 more : (vs l : List ℕ) (a i : ℕ) → i < length vs → set (sets l a (take i vs)) (a + i) (getD vs i 0) ≡ sets l a (take (suc i) vs)
@@ -40,3 +40,11 @@ laid-room l d h = rw (le-leb 18 (length d) h)
 
 pub laid-none : (l : Layout) (d : List ℕ) → length d < 18 → laid l d ≡ d
 laid-none l d h = rw (lt-leb 18 (length d) h)
+
+-- one number
+pub stored-room : (n : ℕ) (d : List ℕ) → 1 ≤ length d → set d 0 n ≡ stored n d
+stored-room n [] h = absurd (omega arith)
+stored-room n (x ∷ d) h = rw (le-leb 1 (length (x ∷ d)) h)
+
+pub stored-none : (n : ℕ) (d : List ℕ) → length d < 1 → d ≡ stored n d
+stored-none n d h = rw (lt-leb 1 (length d) h)

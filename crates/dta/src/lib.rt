@@ -6,7 +6,8 @@ ghost use mathlib.Core.List.{_++_};
 ghost use lib.ListN.{length, drop};
 ghost use Rattle.format.specs.Dta.{verdict, layoutOf};
 ghost use Rattle.checking.specs.Checks.{layoutBy};
-ghost use Rattle.dta.specs.Exports.{numbers, laid};
+ghost use Rattle.rewriting.specs.Rewriting.{rewriteCode, lengthOf, outputOf};
+ghost use Rattle.dta.specs.Exports.{numbers, laid, stored};
 
 // Stores a layout as eighteen numbers: edition, byte order, K, N, and the fourteen positions.
 fn put_layout(out: &mut [u64], l: Layout)
@@ -36,4 +37,30 @@ pub extern "C" fn dta_check(file: &[u8], layout: &mut [u64]) -> u8
         put_layout(layout, c.layout);
     }
     c.code
+}
+
+// Stores a number in the first place of `out`, where it has one.
+fn put_first(out: &mut [u64], n: u64)
+    ensures { λ _. ⌜ now (out .exit) ≡ stored n (now (out .entry)) ⌝ }
+{
+    if 1 <= out.len() {
+        out[0] = n;
+    }
+}
+
+// Rewrites a file to an edition and a byte order (1: MSF, 2: LSF), at the start of `out`: 0, or the refusal's number. The result's length, 0
+// with a refusal, is stored in the first place of `len`, where it has one.
+#[no_mangle]
+pub extern "C" fn dta_rewrite(
+    file: &[u8],
+    edition: u64,
+    order: u64,
+    out: &mut [u8],
+    len: &mut [u64],
+) -> u8
+    ensures { λ r. ⌜ (r ≡ rewriteCode (now (file .entry)) edition order (length (now (out .entry)))) × (now (out .exit) ≡ outputOf (now (file .entry)) edition order (now (out .entry))) × (now (len .exit) ≡ stored (lengthOf (now (file .entry)) edition order (length (now (out .entry)))) (now (len .entry))) ⌝ }
+{
+    let r = rewriting::rewrite(file, edition, order, &mut out[..]);
+    put_first(&mut len[..], r.len);
+    r.code
 }

@@ -1,0 +1,6 @@
+pub mod NumberLaws
+pub mod CheckLaws
+pub mod AskLaws
+pub mod LabelLaws
+pub mod RewriteLaws
+pub mod Theorems

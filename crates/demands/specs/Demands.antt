@@ -1,0 +1,200 @@
+-- The owner's three demands, for editions 113, 114 and 117.
+--
+-- A file is any list of bytes. `Checks f r` is what `check` promises: r is its answer for the file f. `Rewrites f e o d w r` is what
+-- `rewrite` promises: r is its answer for the file f, the edition e and the byte order o, with an output that held d and then holds w. A
+-- question q over the file f and any layout l, right or wrong, is answered `answerOf f l q`: what each function that takes a layout promises,
+-- for its own question. That each call ends is part of each function's proof, as is that it needs nothing of the file, the layout and the
+-- numbers that it is given.
+use mathlib.Core.Path.{_≡_}
+use Prim.Native.Nat.{ℕ, _+_, _≤_, _<_}
+use mathlib.Core.List.{List, [], _++_}
+use mathlib.Core.Logic.{_⊎_}
+use mathlib.Core.Bool.{true, false, _&&_}
+use lib.ListN.{length, getD, take, drop}
+use lib.Dec.{leb}
+use lib.IntN.{ℤ}
+use Rattle.format.specs.Slot.{Fits, Bytes}
+use Rattle.format.specs.Number.{Order}
+use Rattle.format.specs.Edition.{Release, edition, orderMark}
+use Rattle.format.specs.Labels.{Table, LabelBlock}
+use Rattle.format.specs.Variables.{nonempty}
+use Rattle.format.specs.Cells.{signedBy, seeks, keyOf}
+use Rattle.format.specs.Search.{found}
+use Rattle.format.specs.Dta.{Dataset, Extras, Layout, file, known, verdict, releaseOf, editionOf, orderOf, contents, datasetOf, noLayout, lengthMax, written, holds, allTypes, allShorter}
+use Rattle.format.specs.Dead.{DeadPlace}
+use Rattle.checking.specs.declared.Checked.{Checked}
+use Rattle.checking.specs.Checks.{Checks, layoutBy}
+use Rattle.questions.specs.Readings.{Try, none, got, bind}
+use Rattle.questions.specs.Ask.{Question, askWords, Answer, refused, releaseIn, orderIn, inRange, answerIn, answerOf, shown}
+use Rattle.questions.specs.Fact.{cellSays, cellAsked, typeAsked, setAsked, labelAt, slotFact, factOf, bytesOf}
+use Rattle.rewriting.specs.declared.Rewritten.{Rewritten}
+use Rattle.rewriting.specs.Rewriting.{editionTo, orderTo, offered, held, rewritten, Rewrites}
+
+-- both, or neither
+abbrev pub Iff : Type 0 → Type 0 → Type 0
+Iff A B = (A → B) × (B → A)
+
+-- ---- 1. Any bytes may be handed in. Each call ends, with an answer or a refusal by number from the table, for exactly the reason given
+-- there. A refused rewrite leaves the output as it came.
+
+-- the answer r of checking f
+pub record CheckGiven (f : List ℕ) (r : Checked) : Type 0 where
+  -- 0, or one of the numbers 1 to 13
+  pub number : r .code ≤ 13
+  -- 1: the file is over the length bound
+  pub too-long : Iff (r .code ≡ 1) (lengthMax < length f)
+  -- 2: it is not, and it begins as no edition does
+  pub unknown : Iff (r .code ≡ 2) ((length f ≤ lengthMax) × (known f ≡ false))
+  -- else the first refusal of the edition's grammar, in file order
+  pub first : length f ≤ lengthMax → known f ≡ true → r .code ≡ file (editionOf f) (orderOf f) .judge f 0
+  -- a refusal has a layout of zeros
+  pub bare : (r .code ≡ 0 → ⊥) → layoutBy (r .layout) ≡ noLayout
+
+-- what is read for the question q, by the layout's edition and byte order: none where a byte that is needed lies outside the file, or where
+-- what stands there has no meaning
+abbrev pub readFor : List ℕ → Layout → Question → Try Answer
+readFor f l q = bind (releaseIn (l .release)) λ r. bind (orderIn (l .order)) λ o. answerIn (edition r) o f l q
+
+-- the answer to the question q over f and l
+pub record AskGiven (f : List ℕ) (l : Layout) (q : Question) : Type 0 where
+  -- 16: the variable or the observation that is asked for is not in 1..K or 1..N of the layout
+  pub out-of-range : Iff (answerOf f l q ≡ refused 16) (inRange l q ≡ false)
+  -- 17: it is, and what is asked for can't be read
+  pub unread : Iff (answerOf f l q ≡ refused 17) ((inRange l q ≡ true) × (readFor f l q ≡ none))
+  -- no refusal has another number
+  pub number : (c : ℕ) → answerOf f l q ≡ refused c → (c ≡ 16) ⊎ (c ≡ 17)
+  -- else it is what is read
+  pub answer : (a : Answer) → inRange l q ≡ true → readFor f l q ≡ got a → answerOf f l q ≡ a
+
+-- the answer r of rewriting f to the edition e and the byte order o
+pub record RewriteGiven (f : List ℕ) (e o : ℕ) (d w : List ℕ) (r : Rewritten) : Type 0 where
+  -- one of the numbers 0 to 15
+  pub number : r .code ≤ 15
+  -- 1 to 13: as the file is judged
+  pub judged : (verdict f ≡ 0 → ⊥) → r .code ≡ verdict f
+  -- 15: it is accepted, and the target is not offered or can't hold the dataset
+  pub not-held : Iff (r .code ≡ 15) ((verdict f ≡ 0) × (held f e o ≡ false))
+  -- 14: it is held, and the output is shorter than the result
+  pub no-room : Iff (r .code ≡ 14) ((verdict f ≡ 0) × (held f e o ≡ true) × (length d < length (rewritten f e o)))
+  -- 0: it is held, and there is room
+  pub room : Iff (r .code ≡ 0) ((verdict f ≡ 0) × (held f e o ≡ true) × (length (rewritten f e o) ≤ length d))
+  -- refused, the output is as it came; done, it is the result and then what stood there
+  pub untouched : (r .code ≡ 0 → ⊥) → (w ≡ d) × (r .len ≡ 0)
+  pub done : r .code ≡ 0 → (w ≡ rewritten f e o ++ drop (r .len) d) × (r .len ≡ length (rewritten f e o))
+
+pub record Demand1 : Type 0 where
+  pub checked : (f : List ℕ) (r : Checked) → Checks f r → CheckGiven f r
+  pub asked : (f : List ℕ) (l : Layout) (q : Question) → AskGiven f l q
+  pub rewrote : (f : List ℕ) (e o : ℕ) (d w : List ℕ) (r : Rewritten) → Rewrites f e o d w r → RewriteGiven f e o d w r
+
+-- ---- 2. Accepted exactly when well formed, and every header fact, text, cell, long string and label is what the descriptions say. A label is
+-- found only by the exact value. Rewritten to any edition that can hold it, in either byte order, with room, a file is accepted and reads back
+-- as the same dataset.
+
+-- f is a well-formed file of an edition and a byte order that says the dataset d and the extras x: what it says obeys the rules, and its
+-- bytes are those of the grammar, but for the dead ones
+pub record WellFormed (f : List ℕ) (r : Release) (o : Order) (d : Dataset) (x : Extras) : Type 0 where
+  pub short : length f ≤ lengthMax
+  pub rules : file (edition r) o .Right (d, x)
+  pub bytes : Fits f 0 (file (edition r) o .slots (d, x))
+  pub whole : length (file (edition r) o .slots (d, x)) ≡ length f
+
+-- the file f was accepted with the answer c
+pub record Accepted (f : List ℕ) (c : Checked) : Type 0 where
+  pub is-file : Bytes f
+  pub answer : Checks f c
+  pub accepted : c .code ≡ 0
+
+-- what a well-formed file says is what is read
+pub record Says (f : List ℕ) (r : Release) (o : Order) (d : Dataset) (x : Extras) : Type 0 where
+  pub release : releaseOf f ≡ r
+  pub order : orderOf f ≡ o
+  pub dataset : datasetOf f ≡ d
+  pub extras : contents f .1 ≡ x
+
+-- the answer to the question q over f and its layout is the dataset's fact, and so are the bytes that it names; with variable and
+-- observation in range it is no refusal
+pub record FactGiven (f : List ℕ) (l : Layout) (q : Question) : Type 0 where
+  pub fact : answerOf f l q ≡ factOf (editionOf f) (orderOf f) (contents f) q
+  pub bytes : shown f (answerOf f l q) ≡ bytesOf (editionOf f) (orderOf f) (contents f) q
+  pub answered : inRange l q ≡ true → (c : ℕ) → answerOf f l q ≡ refused c → ⊥
+
+-- the value of slot m of a table, signed
+abbrev pub valueAt : Table → ℕ → ℤ
+valueAt t m = signedBy 2147483648 (getD (t .values) m 0)
+
+-- label block n, counted from 0; an empty one where there is none
+abbrev pub blockAt : Dataset → ℕ → LabelBlock
+blockAt d n = getD (d .labelBlocks) n (record { setName = []; entries = record { offsets = []; values = []; texts = [] } })
+
+-- slot m of label block n is the label of cell i, j: the variable has a label-set name, the block is the first of that name, and the slot's
+-- value is exactly what the cell seeks
+pub record LabelOf (d : Dataset) (i j n m : ℕ) : Type 0 where
+  pub named : nonempty (setAsked d i) ≡ true
+  pub block : n < length (d .labelBlocks)
+  pub name : blockAt d n .setName ≡ setAsked d i
+  pub first : (k : ℕ) → k < n → blockAt d k .setName ≡ setAsked d i → ⊥
+  pub slot : m < length (blockAt d n .entries .offsets)
+  pub value : keyOf (cellSays (typeAsked d i) 0 (cellAsked d i j)) ≡ seeks (valueAt (blockAt d n .entries) m)
+
+-- the words shown for cell i, j are those of its label; where it has none, they are the lent text
+pub record WordsGiven (d : Dataset) (i j : ℕ) (lent shows : List ℕ) : Type 0 where
+  pub label : (n m : ℕ) → LabelOf d i j n m → shows ≡ labelAt (blockAt d n .entries) m
+  pub plain : ((n m : ℕ) → LabelOf d i j n m → ⊥) → shows ≡ lent
+
+-- g is accepted, is of edition e and byte order o and says the dataset of f
+pub record ReadsBack (f : List ℕ) (e o : ℕ) (g : List ℕ) : Type 0 where
+  pub accepted : (c : Checked) → Checks g c → Accepted g c
+  pub release : editionOf g .number ≡ e
+  pub order : orderMark (orderOf g) ≡ o
+  pub dataset : datasetOf g ≡ datasetOf f
+
+pub record Demand2 : Type 0 where
+  -- accepted only if well formed
+  pub only : (f : List ℕ) (c : Checked) → Accepted f c → WellFormed f (releaseOf f) (orderOf f) (datasetOf f) (contents f .1)
+  -- accepted if well formed, and read as what it says
+  pub if : (f : List ℕ) (r : Release) (o : Order) (d : Dataset) (x : Extras) → WellFormed f r o d x → (c : Checked) → Checks f c → (c .code ≡ 0) × (Says f r o d x)
+  -- each question is answered by the dataset
+  pub facts : (f : List ℕ) (c : Checked) → Accepted f c → (q : Question) → FactGiven f (layoutBy (c .layout)) q
+  -- a label is found only by the exact value: the words shown, ..
+  pub words : (f : List ℕ) (c : Checked) → Accepted f c → (i j : ℕ) (lent : List ℕ) → inRange (layoutBy (c .layout)) (askWords i j lent) ≡ true
+      → WordsGiven (datasetOf f) i j lent (shown f (answerOf f (layoutBy (c .layout)) (askWords i j lent)))
+  -- .. the search in any table, ..
+  pub exact : (q : ℤ) (t : Table) (m : ℕ) → slotFact q t ≡ found m → (m < length (t .offsets)) × (valueAt t m ≡ q)
+  -- .. and by each value that a table of an accepted file has
+  pub found-by : (f : List ℕ) (c : Checked) → Accepted f c → (n : ℕ) → n < length (datasetOf f .labelBlocks)
+      → let t = blockAt (datasetOf f) n .entries in
+      (m : ℕ) → m < length (t .offsets) → slotFact (valueAt t m) t ≡ found m
+  -- each edition that is read is offered, in either byte order
+  pub offers : (r : Release) (o : Order) → offered (edition r .number) (orderMark o) ≡ true
+  -- what an edition can hold of a dataset that was read: the types that it has (no strL and no text wider than 244 in 113 and 114), display
+  -- formats shorter than its field (12 bytes in 113), a result within the length bound
+  pub can-hold : (f : List ℕ) (c : Checked) → Accepted f c → (r : Release) (o : Order) → let d = datasetOf f in holds (edition r) o d
+      ≡ (allTypes (edition r .tagged) (d .varTypes) && (allShorter (edition r .formatWidth) (d .displayFormats) && leb (length (written (edition r) o d)) lengthMax))
+  -- rewritten where it can be held and there is room, it is accepted and reads back
+  pub back : (f : List ℕ) (c : Checked) → Accepted f c → (e o : ℕ) → offered e o ≡ true → holds (editionTo e) (orderTo o) (datasetOf f) ≡ true
+      → (d w : List ℕ) (r : Rewritten) → Rewrites f e o d w r → length (rewritten f e o) ≤ length d
+      → (r .code ≡ 0) × (ReadsBack f e o (take (r .len) w))
+
+-- ---- 3. Nothing from a dead byte gets out. Two files that differ in dead bytes alone have the same verdict, layout, dataset, answers (down to
+-- the bytes handed back) and rewritten output, in every byte of the buffer.
+
+-- g is as long as the accepted file f and has the same byte at every place that is not dead in f (document 01's list)
+pub record DifferInDead (f g : List ℕ) : Type 0 where
+  pub long : length g ≡ length f
+  pub same : (i : ℕ) → i < length f → (DeadPlace f i → ⊥) → getD g i 0 ≡ getD f i 0
+
+-- the same answer to the question q, and the same bytes handed back
+pub record SameAnswer (f g : List ℕ) (l : Layout) (q : Question) : Type 0 where
+  pub answer : answerOf g l q ≡ answerOf f l q
+  pub bytes : shown g (answerOf g l q) ≡ shown f (answerOf f l q)
+
+pub record Demand3 : Type 0 where
+  -- verdict and layout; dataset
+  pub checked : (f g : List ℕ) (c : Checked) → Accepted f c → DifferInDead f g → (b : Checked) → Checks g b → b ≡ c
+  pub dataset : (f g : List ℕ) (c : Checked) → Accepted f c → DifferInDead f g → datasetOf g ≡ datasetOf f
+  -- answers
+  pub asked : (f g : List ℕ) (c : Checked) → Accepted f c → DifferInDead f g → (q : Question) → SameAnswer f g (layoutBy (c .layout)) q
+  -- rewritten output: into buffers that held the same before, of any length, to any target
+  pub rewrote : (f g : List ℕ) (c : Checked) → Accepted f c → DifferInDead f g → (e o : ℕ) (d v w : List ℕ) (r s : Rewritten)
+      → Rewrites f e o d v r → Rewrites g e o d w s → (s ≡ r) × (w ≡ v)

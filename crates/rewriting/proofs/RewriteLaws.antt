@@ -1,0 +1,170 @@
+-- The answer of a rewrite, case by case.
+use mathlib.Core.Path.{_≡_, refl, sym, ap, _∙_, subst}
+use Prim.Native.Nat.{ℕ, zero, suc, _+_, _≤_, _<_}
+use native.Mathlib.Omega.{arith}
+use mathlib.Core.List.{List, [], _++_}
+use mathlib.Core.Bool.{Bool, true, false, cond, _&&_, _||_}
+use lib.ListN.{length, getD, drop}
+use lib.Dec.{eqb, leb}
+use borrow.Author.Tests.{eqb-true, eqb-false, eq-eqb, ne-eqb, leb-true, leb-false, le-leb, lt-leb}
+use Rattle.format.specs.Slot.{Bytes}
+use Rattle.format.specs.Number.{Order, msf, lsf, orderBy}
+use Rattle.format.specs.Grammar.{Sect, also, unless}
+use Rattle.format.specs.Edition.{Edition, Release, r113, r114, r117, edition, orderMark}
+use Rattle.format.specs.Dta as Format
+use Rattle.format.specs.Dta.{Dataset, file, verdict, releaseOf, editionOf, orderOf, contents, datasetOf, layoutOf, positions, partSizes, written, holds, allTypes, allShorter, lengthMax}
+use Rattle.format.proofs.FileLaws.{layout-is, itself, written-length}
+use Rattle.format.proofs.PartLaws.{size-total}
+use Rattle.format.proofs.HoldsLaws.{holds-if}
+use Rattle.editions.specs.Editions.{numbersOf, releaseBy}
+use Rattle.editions.specs.declared.Edition as Code
+use Rattle.checking.specs.declared.Layout.{Layout}
+use Rattle.checking.specs.declared.Checked.{Checked}
+use Rattle.checking.specs.Checks.{Checks, layoutBy}
+use Rattle.writing.specs.Writes.{Puts}
+use Rattle.sources.specs.Sources.{Own, Opened, Known, Holding}
+use Rattle.plans.specs.declared.Plan.{Plan}
+use Rattle.plans.specs.Plans.{Planned}
+use Rattle.rewriting.specs.declared.Rewritten.{Rewritten}
+use Rattle.rewriting.specs.Rewriting.{offered, editionTo, orderTo, held, rewritten, rewriteCode, outputOf, lengthOf, Rewrites, noResult}
+
+-- ---- the number, by its three tests
+
+abbrev codeBy : ℕ → Bool → Bool → ℕ
+codeBy v h r = also v (also (unless h 15) (unless r 14))
+
+module _ (f : List ℕ) (e o : ℕ) (d : List ℕ) where
+  -- a refusal leaves the output as it came
+  pub refusal : (c : ℕ) → c ≡ rewriteCode f e o (length d) → (c ≡ 0 → ⊥) → (r : Rewritten) → r ≡ noResult c → Rewrites f e o d d r
+  unfolding lengthOf outputOf
+  refusal c q n r h =
+      let z : eqb (rewriteCode f e o (length d)) 0 ≡ false = ne-eqb _ 0 (λ x. n (q ∙ x)) in
+      subst (Rewrites f e o d d) (sym h) (record { code = q; len = rw z; out = rw z })
+
+  pub refused-file : (c : ℕ) → c ≡ verdict f → (c ≡ 0 → ⊥) → (r : Rewritten) → r ≡ noResult c → Rewrites f e o d d r
+  unfolding rewriteCode
+  refused-file c q n r h = refusal c (go c q n) n r h
+    where
+      go : (x : ℕ) → x ≡ verdict f → (x ≡ 0 → ⊥) → x ≡ also (verdict f) (also (unless (held f e o) 15) (unless (leb (length (rewritten f e o)) (length d)) 14))
+      go zero p m = absurd (m refl)
+      go (suc x) p m = rw (sym p)
+
+  pub refused-15 : verdict f ≡ 0 → held f e o ≡ false → (r : Rewritten) → r ≡ noResult 15 → Rewrites f e o d d r
+  unfolding rewriteCode
+  refused-15 v h r q = refusal 15 (rw (v, h)) (λ x. absurd (omega arith)) r q
+
+  pub refused-14 : verdict f ≡ 0 → held f e o ≡ true → leb (length (rewritten f e o)) (length d) ≡ false → (r : Rewritten) → r ≡ noResult 14 → Rewrites f e o d d r
+  unfolding rewriteCode
+  refused-14 v h l r q = refusal 14 (rw (v, h, l)) (λ x. absurd (omega arith)) r q
+
+  pub result : verdict f ≡ 0 → held f e o ≡ true → length (rewritten f e o) ≤ length d → (w : List ℕ) (n m : ℕ) → Puts (rewritten f e o) d w m → n ≡ length (rewritten f e o)
+      → Rewrites f e o d w (record { code = 0; len = n })
+  unfolding rewriteCode lengthOf outputOf
+  result v h l w n m p q =
+      let b = le-leb (length (rewritten f e o)) (length d) l in
+      record { code = rw (v, h, b); len = rw (v, h, b) q; out = rw (v, h, b) (p .is ∙ ap (λ (x : ℕ). rewritten f e o ++ drop x d) (p .long)) }
+
+-- ---- what checking gives
+
+module _ (f : List ℕ) (c : Checked) (C : Checks f c) (v : c .code ≡ 0) where
+  pub accepted : verdict f ≡ 0
+  accepted = sym (C .code) ∙ v
+
+  pub own : Own f (c .layout)
+  own = record { accepted = accepted; layout = C .layout }
+
+  layout : layoutBy (c .layout) ≡ Format.layoutBy (editionOf f) (orderOf f) (contents f)
+  layout = C .layout ∙ layout-is (releaseOf f) (orderOf f) f (contents f) (itself f accepted)
+
+  number-back : (r : Release) → releaseBy (edition r .number) ≡ r
+  number-back r113 = refl
+  number-back r114 = refl
+  number-back r117 = refl
+
+  order-back : (o : Order) → orderBy (eqb (orderMark o) 1) ≡ o
+  order-back msf = refl
+  order-back lsf = refl
+
+  pub opened : (e : Code.Edition) (n : ℕ) → numbersOf e ≡ edition (releaseBy n) → releaseBy n ≡ releaseBy (c .layout .edition) → Opened f e (eqb (c .layout .order) 1)
+  opened e n h q =
+      record {
+        accepted = accepted;
+        edition =
+            h ∙ ap edition q ∙ ap (λ (l : Format.Layout). edition (releaseBy (l .release))) layout ∙ ap edition (number-back (releaseOf f));
+        order = ap (λ (l : Format.Layout). orderBy (eqb (l .order) 1)) layout ∙ order-back (orderOf f);
+      }
+
+-- ---- the target
+
+module _ (e : ℕ) (to : Code.Edition) (n : ℕ) (h : numbersOf to ≡ edition (releaseBy n)) (q : releaseBy n ≡ releaseBy e) where
+  pub target : numbersOf to ≡ editionTo e
+  target = h ∙ ap edition q
+
+  pub known : Known to
+  known = record { release = releaseBy e; is = target }
+
+-- the last position is the result's size
+last-place : (e : Edition) (o : Order) (w : Dataset × Format.Extras) → getD (positions e o w) 13 0 ≡ file e o .size w
+unfolding partSizes
+last-place e o w = omega (arith, size-total e o w)
+
+module _ (f : List ℕ) (u : Bytes f) (v : verdict f ≡ 0) (e o : ℕ) (to : Code.Edition) (T : numbersOf to ≡ editionTo e) (p : Plan) (P : Planned f to p) where
+  pub size-is : getD (p .places) 13 0 ≡ file (editionTo e) (orderTo o) .size (datasetOf f, [])
+  size-is =
+      ap (λ (x : List ℕ). getD x 13 0) (P .is (orderTo o)) ∙ last-place (numbersOf to) (orderTo o) (datasetOf f, [])
+      ∙ ap (λ (x : Edition). file x (orderTo o) .size (datasetOf f, [])) T
+
+  pub length-is : getD (p .places) 13 0 ≡ length (rewritten f e o)
+  length-is = size-is ∙ sym (written-length (releaseBy e) (orderTo o) (datasetOf f))
+
+  -- what code tests is whether the target holds the dataset
+  pub held-is : (b : Bool) → b ≡ (allTypes (to .tagged) (datasetOf f .varTypes) && (allShorter (to .«format_width») (datasetOf f .displayFormats) && leb (getD (p .places) 13 0) lengthMax))
+      → holds (editionTo e) (orderTo o) (datasetOf f) ≡ b
+  held-is b h =
+      holds-if f u v (orderTo o) (releaseBy e)
+      ∙ (λ i. allTypes (sym T i .tagged) (datasetOf f .varTypes) && (allShorter (sym T i .formatWidth) (datasetOf f .displayFormats) && leb (sym size-is i) lengthMax)) ∙ sym h
+
+  pub not-held : offered e o ≡ true → (b : Bool) → holds (editionTo e) (orderTo o) (datasetOf f) ≡ b → held f e o ≡ b
+  not-held w b h = rw w h
+
+  pub holding : holds (editionTo e) (orderTo o) (datasetOf f) ≡ true → Holding f to (orderTo o)
+  holding h = record { known = record { release = releaseBy e; is = T }; held = ap (λ (x : Edition). holds x (orderTo o) (datasetOf f)) T ∙ h }
+
+  pub places-is : p .places ≡ positions (numbersOf to) (orderTo o) (datasetOf f, [])
+  places-is = P .is (orderTo o)
+
+  pub written-is : written (numbersOf to) (orderTo o) (datasetOf f) ≡ rewritten f e o
+  written-is = ap (λ (x : Edition). written x (orderTo o) (datasetOf f)) T
+
+pub not-offered : (f : List ℕ) (e o : ℕ) → offered e o ≡ false → held f e o ≡ false
+not-offered f e o h = rw h
+
+-- ---- tests
+
+pub one-first : (x a b c : ℕ) → x ≡ a → true ≡ (eqb x a || (eqb x b || eqb x c))
+one-first x a b c h = rw (eq-eqb x a h)
+
+pub one-second : (x a b c : ℕ) → (x ≡ a → ⊥) → x ≡ b → true ≡ (eqb x a || (eqb x b || eqb x c))
+one-second x a b c n h = rw (ne-eqb x a n, eq-eqb x b h)
+
+pub one-third : (x a b c : ℕ) → (x ≡ a → ⊥) → (x ≡ b → ⊥) → eqb x c ≡ (eqb x a || (eqb x b || eqb x c))
+one-third x a b c n m = rw (ne-eqb x a n, ne-eqb x b m)
+
+or-same : (b : Bool) → (b || b) ≡ b
+or-same true = refl
+or-same false = refl
+
+pub offered-by : (e o : ℕ) (b c : Bool) → b ≡ (eqb e 113 || (eqb e 114 || eqb e 117)) → b ≡ true → c ≡ (eqb o 1 || (eqb o 2 || eqb o 2)) → c ≡ offered e o
+offered-by e o b c h t q = q ∙ ap (λ (x : Bool). eqb o 1 || x) (or-same (eqb o 2)) ∙ rw (sym h, t)
+
+pub offered-not : (e o : ℕ) (b : Bool) → b ≡ (eqb e 113 || (eqb e 114 || eqb e 117)) → b ≡ false → false ≡ offered e o
+offered-not e o b h t = rw (sym h, t)
+
+pub held-no : (a b : Bool) (x : Bool) → a ≡ x → a ≡ false → false ≡ (x && b)
+held-no a b x h q = rw (sym h, q)
+
+pub held-no-2 : (a b x y c : Bool) → a ≡ x → a ≡ true → b ≡ y → b ≡ false → false ≡ (x && (y && c))
+held-no-2 a b x y c h q k r = rw (sym h, q, sym k, r)
+
+pub held-yes : (a b x y c z : Bool) → a ≡ x → a ≡ true → b ≡ y → b ≡ true → z ≡ c → z ≡ (x && (y && c))
+held-yes a b x y c z h q k r w = rw (sym h, q, sym k, r) w

@@ -1,0 +1,3 @@
+pub mod SourceLaws
+pub mod HeadParts
+pub mod PartReads

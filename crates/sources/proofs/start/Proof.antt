@@ -1,0 +1,17 @@
+-- `sources::start` meets its contract.
+use native.Mathlib.Omega.{arith}
+use borrow.Author.Needs.{needs}
+use Rattle.sources.proofs.start.Statement.{statement}
+use Rattle.sources.proofs.start.Tie as tie
+
+add-result : tie.Need-add-result
+add-result c = search needs
+
+returns : tie.Need-returns
+returns c = rw (c .if1 .taken)
+
+returns-2 : tie.Need-returns-2
+returns-2 c = rw (c .if1 .left) (omega arith)
+
+pub start-spec : {M : Type 1} → statement M
+start-spec = tie.close (tie.spec add-result returns returns-2)

@@ -1,0 +1,6 @@
+pub mod PutLaws
+pub mod RunLaws
+pub mod CellLaws
+pub mod PlanLaws
+pub mod RowLaws
+pub mod WordLaws

@@ -1,0 +1,4 @@
+pub mod TurnLaws
+pub mod RecordLaws
+pub mod RoomLaws
+pub mod LoopLaws

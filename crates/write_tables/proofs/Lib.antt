@@ -1,0 +1,3 @@
+pub mod Lay
+pub mod MarkLaws
+pub mod TableLaws

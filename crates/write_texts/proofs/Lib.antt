@@ -1,0 +1,3 @@
+pub mod TimesLaws
+pub mod TextsLaws
+pub mod SortLaws
