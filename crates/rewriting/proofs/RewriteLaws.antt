@@ -168,3 +168,59 @@ held-no-2 a b x y c h q k r = rw (sym h, q, sym k, r)
 
 pub held-yes : (a b x y c z : Bool) → a ≡ x → a ≡ true → b ≡ y → b ≡ true → z ≡ c → z ≡ (x && (y && c))
 held-yes a b x y c z h q k r w = rw (sym h, q, sym k, r) w
+
+-- ---- the stages of a rewrite
+
+-- the file f is accepted, and e and m are its numbers and byte order; the target n, o is offered, and to has its numbers
+pub record Begun (f : List ℕ) (n o : ℕ) (e to : Code.Edition) (m : Bool) : Type 0 where
+  pub bytes : Bytes f
+  pub opens : Opened f e m
+  pub offers : offered n o ≡ true
+  pub aims : numbersOf to ≡ editionTo n
+
+-- .. and p are the result's positions, and b tells whether the target can hold the dataset
+pub record Ready (f : List ℕ) (n o : ℕ) (e to : Code.Edition) (m : Bool) (p : Plan) (b : Bool) : Type 0 where
+  pub begun : Begun f n o e to m
+  pub plan : Planned f to p
+  pub tests : b ≡ (allTypes (to .tagged) (datasetOf f .varTypes) && (allShorter (to .«format_width») (datasetOf f .displayFormats) && leb (getD (p .places) 13 0) lengthMax))
+
+pub known-target : {f : List ℕ} {n o : ℕ} {e to : Code.Edition} {m : Bool} → Begun f n o e to m → Known to
+known-target {f} {n} B = record { release = releaseBy n; is = B .aims }
+
+module _ {f : List ℕ} {n o : ℕ} {e to : Code.Edition} {m : Bool} {p : Plan} {b : Bool} (R : Ready f n o e to m p b) (d : List ℕ) where
+  A : verdict f ≡ 0
+  A = R .begun .opens .accepted
+
+  holds-is : holds (editionTo n) (orderTo o) (datasetOf f) ≡ b
+  holds-is = held-is f (R .begun .bytes) A n o to (R .begun .aims) p (R .plan) b (R .tests)
+
+  -- whether it is held is b
+  is : (x : Bool) → b ≡ x → held f n o ≡ x
+  is x h = not-held f (R .begun .bytes) A n o to (R .begun .aims) p (R .plan) (R .begun .offers) x (holds-is ∙ h)
+
+  long : getD (p .places) 13 0 ≡ length (rewritten f n o)
+  long = length-is f (R .begun .bytes) A n o to (R .begun .aims) p (R .plan)
+
+  same : written (numbersOf to) (orderTo o) (datasetOf f) ≡ rewritten f n o
+  same = written-is f (R .begun .bytes) A n o to (R .begun .aims) p (R .plan)
+
+  -- 15, 14, and what is asked for and given where there is room
+  pub ready-15 : b ≡ false → (r : Rewritten) → r ≡ noResult 15 → Rewrites f n o d d r
+  ready-15 h r q = refused-15 f n o d A (is false h) r q
+
+  pub ready-14 : b ≡ true → length d < getD (p .places) 13 0 → (r : Rewritten) → r ≡ noResult 14 → Rewrites f n o d d r
+  ready-14 h l r q = refused-14 f n o d A (is true h) (lt-leb (length (rewritten f n o)) (length d) (omega (arith, long))) r q
+
+  pub ready-holding : b ≡ true → Holding f to (orderTo o)
+  ready-holding h = holding f (R .begun .bytes) A n o to (R .begun .aims) p (R .plan) (holds-is ∙ h)
+
+  pub ready-places : p .places ≡ positions (numbersOf to) (orderTo o) (datasetOf f, [])
+  ready-places = places-is f (R .begun .bytes) A n o to (R .begun .aims) p (R .plan)
+
+  pub ready-room : getD (p .places) 13 0 ≤ length d → length (written (numbersOf to) (orderTo o) (datasetOf f)) ≤ length d
+  ready-room l = subst (λ (x : List ℕ). length x ≤ length d) (sym same) (omega (arith, long))
+
+  pub ready-done : b ≡ true → getD (p .places) 13 0 ≤ length d → (w : List ℕ) (k : ℕ) → Puts (written (numbersOf to) (orderTo o) (datasetOf f)) d w k
+      → Rewrites f n o d w (record { code = 0; len = getD (p .places) 13 0 })
+  ready-done h l w k q =
+      result f n o d A (is true h) (omega (arith, long)) w (getD (p .places) 13 0) k (subst (λ (x : List ℕ). Puts x d w k) same q) long

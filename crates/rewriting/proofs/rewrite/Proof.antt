@@ -1,30 +1,28 @@
+-- `rewriting::rewrite` meets its contract.
 use borrow.Author.Needs.{needs}
 use Rattle.rewriting.proofs.rewrite.Statement.{statement}
 use Rattle.rewriting.proofs.rewrite.Tie as tie
-use Rattle.rewriting.proofs.rewrite.Reads as reads
-use Rattle.rewriting.proofs.rewrite.Lts as lts
-use Rattle.checking.proofs.check.Reads as check-reads
-use Rattle.editions.proofs.numbers_of.Reads as numbers-of-reads
-use Rattle.plans.proofs.plan_of.Reads as plan-of-reads
-use Rattle.rewriting.proofs.is_held.Reads as is-held-reads
-use Rattle.rewriting.proofs.is_offered.Reads as is-offered-reads
-use Rattle.rewriting.proofs.refused.Reads as refused-reads
-use Rattle.rewriting.proofs.release_of.Reads as release-of-reads
-use Rattle.sources.proofs.source_of.Reads as source-of-reads
-use Rattle.write_all.proofs.put_all.Reads as put-all-reads
-use Prim.Native.Nat.{ℕ, _+_, _*_, _≤_, _<_}
-use mathlib.Core.Path.{_≡_, refl, sym, ap, _∙_, subst}
-use mathlib.Core.List.{List}
-use mathlib.Core.Bool.{true, false}
+use mathlib.Core.Path.{_≡_, sym, _∙_}
 use native.Mathlib.Omega.{arith}
-use lib.ListN.{length, getD}
-use lib.Dec.{eqb, leb}
-use Rattle.format.specs.Slot.{Bytes}
-use Rattle.format.specs.Dta.{written}
-use borrow.Author.Tests.{not-true, not-false, lt-leb, le-leb}
-use Rattle.writing.specs.Writes.{Puts}
-use Rattle.rewriting.specs.Rewriting.{offered, rewritten}
-use Rattle.rewriting.proofs.RewriteLaws.{refused-file, refused-15, refused-14, result, accepted, own, opened, target, known, length-is, held-is, not-held, holding, places-is, written-is, not-offered}
+use lib.Dec.{eqb}
+use borrow.Author.Tests.{not-true, not-false}
+use Rattle.rewriting.proofs.RewriteLaws.{refused-file, refused-15, accepted, own, opened, target, not-offered, Begun, Ready, known-target, ready-15, ready-14, ready-holding, ready-places, ready-room, ready-done}
+
+-- the file and the target are known
+begun : (c : tie.After-struct-known2) → Begun (c .before .before .before .before .before .before .before .before .before .before .before .before .before .args .f .now) (c .before .before .before .before .before .before .before .before .before .before .before .before .before .args .edition) (c .before .before .before .before .before .before .before .before .before .before .before .before .before .args .order) (c .before .before .before .numbers-of .result) (c .before .numbers-of2 .result) (eqb (c .before .before .before .before .before .before .before .before .before .before .check .result .layout .order) 1)
+begun c =
+    let f = c .before .before .before .before .before .before .before .before .before .before .before .before .before .args .f .now in
+    let k = c .before .before .before .before .before .before .before .before .before .before .check .result in
+    record {
+      bytes = λ i. omega (arith, c .before .before .before .before .before .before .before .before .before .before .before .before .shared-slice-known .given i);
+      opens = opened f k (c .before .before .before .before .before .before .before .before .before .before .check .ensures) (c .before .before .before .before .before .before .before .before .if1 .left) (c .before .before .before .numbers-of .result) (c .before .before .before .before .release-of .result) (c .before .before .before .numbers-of .ensures) (c .before .before .before .before .release-of .ensures);
+      offers = sym (c .before .before .before .before .before .before .before .is-offered .ensures) ∙ not-false _ (c .before .before .before .before .before .before .if2 .left);
+      aims = target (c .before .before .before .before .before .before .before .before .before .before .before .before .before .args .edition) (c .before .numbers-of2 .result) (c .before .before .release-of2 .result) (c .before .numbers-of2 .ensures) (c .before .before .release-of2 .ensures);
+    }
+
+-- .. and whether the target holds the dataset
+ready : (c : tie.After-is-held) → Ready (c .before .before .before .before .before .before .before .before .before .before .before .before .before .before .before .before .before .args .f .now) (c .before .before .before .before .before .before .before .before .before .before .before .before .before .before .before .before .before .args .edition) (c .before .before .before .before .before .before .before .before .before .before .before .before .before .before .before .before .before .args .order) (c .before .before .before .before .before .before .before .numbers-of .result) (c .before .before .before .before .before .numbers-of2 .result) (eqb (c .before .before .before .before .before .before .before .before .before .before .before .before .before .before .check .result .layout .order) 1) (c .before .before .plan-of .result) (c .is-held .result)
+ready c = record { begun = begun (c .before .before .before .before); plan = c .before .before .plan-of .ensures; tests = c .is-held .ensures }
 
 check-requires : tie.Need-check-requires
 check-requires c κs = search needs
@@ -33,17 +31,7 @@ refused-requires : tie.Need-refused-requires
 refused-requires c κs = search needs
 
 returns : tie.Need-returns
-returns c =
-    let g = c .before .before .before .before .before .before in
-    let a = g .args in
-    let f = a .f .now in
-    let u : Bytes f = (λ i. omega (arith, c .before .before .before .before .before .shared-slice-known .given i)) in
-    let n = a .edition in
-    let o = a .order in
-    let d = a .out .now in
-    let k = c .before .before .before .check .result in
-    let C = c .before .before .before .check .ensures in
-    refused-file f n o d (k .code) (C .code) (c .before .if1 .taken) (c .refused .result) (c .refused .ensures)
+returns c = refused-file (c .before .before .before .before .before .before .args .f .now) (c .before .before .before .before .before .before .args .edition) (c .before .before .before .before .before .before .args .order) (c .before .before .before .before .before .before .args .out .now) (c .before .before .before .check .result .code) (c .before .before .before .check .ensures .code) (c .before .if1 .taken) (c .refused .result) (c .refused .ensures)
 
 is-offered-requires : tie.Need-is-offered-requires
 is-offered-requires c κs = search needs
@@ -53,18 +41,9 @@ refused-requires-2 c κs = search needs
 
 returns-2 : tie.Need-returns-2
 returns-2 c =
-    let g = c .before .before .before .before .before .before .before .before in
-    let a = g .args in
-    let f = a .f .now in
-    let u : Bytes f = (λ i. omega (arith, c .before .before .before .before .before .before .before .shared-slice-known .given i)) in
-    let n = a .edition in
-    let o = a .order in
-    let d = a .out .now in
-    let k = c .before .before .before .before .before .check .result in
-    let C = c .before .before .before .before .before .check .ensures in
-    let v = c .before .before .before .if1 .left in
-    let A = accepted f k C v in
-    refused-15 f n o d A (not-offered f n o (sym (c .before .before .is-offered .ensures) ∙ not-true _ (c .before .if2 .taken))) (c .refused2 .result) (c .refused2 .ensures)
+    let f = c .before .before .before .before .before .before .before .before .args .f .now in
+    refused-15 f (c .before .before .before .before .before .before .before .before .args .edition) (c .before .before .before .before .before .before .before .before .args .order) (c .before .before .before .before .before .before .before .before .args .out .now) (accepted f (c .before .before .before .before .before .check .result) (c .before .before .before .before .before .check .ensures) (c .before .before .before .if1 .left))
+    (not-offered f (c .before .before .before .before .before .before .before .before .args .edition) (c .before .before .before .before .before .before .before .before .args .order) (sym (c .before .before .is-offered .ensures) ∙ not-true _ (c .before .if2 .taken))) (c .refused2 .result) (c .refused2 .ensures)
 
 release-of-requires : tie.Need-release-of-requires
 release-of-requires c κs = search needs
@@ -79,97 +58,22 @@ numbers-of-requires-2 : tie.Need-numbers-of-requires-2
 numbers-of-requires-2 c κs = search needs
 
 source-of-requires : tie.Need-source-of-requires
-source-of-requires c κs =
-    let g = c .before .before .before .before .before .before .before .before .before .before .before .before .before in
-    let a = g .args in
-    let f = a .f .now in
-    let u : Bytes f = (λ i. omega (arith, c .before .before .before .before .before .before .before .before .before .before .before .before .shared-slice-known .given i)) in
-    let n = a .edition in
-    let o = a .order in
-    let d = a .out .now in
-    let k = c .before .before .before .before .before .before .before .before .before .before .check .result in
-    let C = c .before .before .before .before .before .before .before .before .before .before .check .ensures in
-    let v = c .before .before .before .before .before .before .before .before .if1 .left in
-    let A = accepted f k C v in
-    let y : offered n o ≡ true = sym (c .before .before .before .before .before .before .before .is-offered .ensures) ∙ not-false _ (c .before .before .before .before .before .before .if2 .left) in
-    let e = c .before .before .before .numbers-of .result in
-    let to = c .before .numbers-of2 .result in
-    let op = opened f k C v e (c .before .before .before .before .release-of .result) (c .before .before .before .numbers-of .ensures) (c .before .before .before .before .release-of .ensures) in
-    let T = target n to (c .before .before .release-of2 .result) (c .before .numbers-of2 .ensures) (c .before .before .release-of2 .ensures) in
-    let K = known n to (c .before .before .release-of2 .result) (c .before .numbers-of2 .ensures) (c .before .before .release-of2 .ensures) in
-    (own f k C v, op)
+source-of-requires c κs = (own (c .before .before .before .before .before .before .before .before .before .before .before .before .before .args .f .now) (c .before .before .before .before .before .before .before .before .before .before .check .result) (c .before .before .before .before .before .before .before .before .before .before .check .ensures) (c .before .before .before .before .before .before .before .before .if1 .left), begun c .opens)
 
 plan-of-requires : tie.Need-plan-of-requires
-plan-of-requires c κs =
-    let g = c .before .before .before .before .before .before .before .before .before .before .before .before .before .before in
-    let a = g .args in
-    let f = a .f .now in
-    let u : Bytes f = (λ i. omega (arith, c .before .before .before .before .before .before .before .before .before .before .before .before .before .shared-slice-known .given i)) in
-    let n = a .edition in
-    let o = a .order in
-    let d = a .out .now in
-    let k = c .before .before .before .before .before .before .before .before .before .before .before .check .result in
-    let C = c .before .before .before .before .before .before .before .before .before .before .before .check .ensures in
-    let v = c .before .before .before .before .before .before .before .before .before .if1 .left in
-    let A = accepted f k C v in
-    let y : offered n o ≡ true = sym (c .before .before .before .before .before .before .before .before .is-offered .ensures) ∙ not-false _ (c .before .before .before .before .before .before .before .if2 .left) in
-    let e = c .before .before .before .before .numbers-of .result in
-    let to = c .before .before .numbers-of2 .result in
-    let op = opened f k C v e (c .before .before .before .before .before .release-of .result) (c .before .before .before .before .numbers-of .ensures) (c .before .before .before .before .before .release-of .ensures) in
-    let T = target n to (c .before .before .before .release-of2 .result) (c .before .before .numbers-of2 .ensures) (c .before .before .before .release-of2 .ensures) in
-    let K = known n to (c .before .before .before .release-of2 .result) (c .before .before .numbers-of2 .ensures) (c .before .before .before .release-of2 .ensures) in
-    (op, c .source-of .ensures, K)
+plan-of-requires c κs = (begun (c .before) .opens, c .source-of .ensures, known-target (begun (c .before)))
 
 array-read-is-held : tie.Need-array-read-is-held
 array-read-is-held c = search needs
 
 is-held-requires : tie.Need-is-held-requires
-is-held-requires c κs =
-    let g = c .before .before .before .before .before .before .before .before .before .before .before .before .before .before .before .before in
-    let a = g .args in
-    let f = a .f .now in
-    let u : Bytes f = (λ i. omega (arith, c .before .before .before .before .before .before .before .before .before .before .before .before .before .before .before .shared-slice-known .given i)) in
-    let n = a .edition in
-    let o = a .order in
-    let d = a .out .now in
-    let k = c .before .before .before .before .before .before .before .before .before .before .before .before .before .check .result in
-    let C = c .before .before .before .before .before .before .before .before .before .before .before .before .before .check .ensures in
-    let v = c .before .before .before .before .before .before .before .before .before .before .before .if1 .left in
-    let A = accepted f k C v in
-    let y : offered n o ≡ true = sym (c .before .before .before .before .before .before .before .before .before .before .is-offered .ensures) ∙ not-false _ (c .before .before .before .before .before .before .before .before .before .if2 .left) in
-    let e = c .before .before .before .before .before .before .numbers-of .result in
-    let to = c .before .before .before .before .numbers-of2 .result in
-    let op = opened f k C v e (c .before .before .before .before .before .before .before .release-of .result) (c .before .before .before .before .before .before .numbers-of .ensures) (c .before .before .before .before .before .before .before .release-of .ensures) in
-    let T = target n to (c .before .before .before .before .before .release-of2 .result) (c .before .before .before .before .numbers-of2 .ensures) (c .before .before .before .before .before .release-of2 .ensures) in
-    let K = known n to (c .before .before .before .before .before .release-of2 .result) (c .before .before .before .before .numbers-of2 .ensures) (c .before .before .before .before .before .release-of2 .ensures) in
-    (op, c .before .before .source-of .ensures)
+is-held-requires c κs = (begun (c .before .before .before) .opens, c .before .before .source-of .ensures)
 
 refused-requires-3 : tie.Need-refused-requires-3
 refused-requires-3 c κs = search needs
 
 returns-3 : tie.Need-returns-3
-returns-3 c =
-    let g = c .before .before .before .before .before .before .before .before .before .before .before .before .before .before .before .before .before .before .before in
-    let a = g .args in
-    let f = a .f .now in
-    let u : Bytes f = (λ i. omega (arith, c .before .before .before .before .before .before .before .before .before .before .before .before .before .before .before .before .before .before .shared-slice-known .given i)) in
-    let n = a .edition in
-    let o = a .order in
-    let d = a .out .now in
-    let k = c .before .before .before .before .before .before .before .before .before .before .before .before .before .before .before .before .check .result in
-    let C = c .before .before .before .before .before .before .before .before .before .before .before .before .before .before .before .before .check .ensures in
-    let v = c .before .before .before .before .before .before .before .before .before .before .before .before .before .before .if1 .left in
-    let A = accepted f k C v in
-    let y : offered n o ≡ true = sym (c .before .before .before .before .before .before .before .before .before .before .before .before .before .is-offered .ensures) ∙ not-false _ (c .before .before .before .before .before .before .before .before .before .before .before .before .if2 .left) in
-    let e = c .before .before .before .before .before .before .before .before .before .numbers-of .result in
-    let to = c .before .before .before .before .before .before .before .numbers-of2 .result in
-    let op = opened f k C v e (c .before .before .before .before .before .before .before .before .before .before .release-of .result) (c .before .before .before .before .before .before .before .before .before .numbers-of .ensures) (c .before .before .before .before .before .before .before .before .before .before .release-of .ensures) in
-    let T = target n to (c .before .before .before .before .before .before .before .before .release-of2 .result) (c .before .before .before .before .before .before .before .numbers-of2 .ensures) (c .before .before .before .before .before .before .before .before .release-of2 .ensures) in
-    let K = known n to (c .before .before .before .before .before .before .before .before .release-of2 .result) (c .before .before .before .before .before .before .before .numbers-of2 .ensures) (c .before .before .before .before .before .before .before .before .release-of2 .ensures) in
-    let p = c .before .before .before .before .plan-of .result in
-    let P = c .before .before .before .before .plan-of .ensures in
-    let h = held-is f u A n o to T p P (c .before .before .is-held .result) (c .before .before .is-held .ensures) in
-    refused-15 f n o d A (not-held f u A n o to T p P y false (h ∙ not-true _ (c .before .if3 .taken))) (c .refused3 .result) (c .refused3 .ensures)
+returns-3 c = ready-15 (ready (c .before .before)) (c .before .before .before .before .before .before .before .before .before .before .before .before .before .before .before .before .before .before .before .args .out .now) (not-true _ (c .before .if3 .taken)) (c .refused3 .result) (c .refused3 .ensures)
 
 array-read-if4 : tie.Need-array-read-if4
 array-read-if4 c = search needs
@@ -178,58 +82,13 @@ refused-requires-4 : tie.Need-refused-requires-4
 refused-requires-4 c κs = search needs
 
 returns-4 : tie.Need-returns-4
-returns-4 c =
-    let g = c .before .before .before .before .before .before .before .before .before .before .before .before .before .before .before .before .before .before .before .before in
-    let a = g .args in
-    let f = a .f .now in
-    let u : Bytes f = (λ i. omega (arith, c .before .before .before .before .before .before .before .before .before .before .before .before .before .before .before .before .before .before .before .shared-slice-known .given i)) in
-    let n = a .edition in
-    let o = a .order in
-    let d = a .out .now in
-    let k = c .before .before .before .before .before .before .before .before .before .before .before .before .before .before .before .before .before .check .result in
-    let C = c .before .before .before .before .before .before .before .before .before .before .before .before .before .before .before .before .before .check .ensures in
-    let v = c .before .before .before .before .before .before .before .before .before .before .before .before .before .before .before .if1 .left in
-    let A = accepted f k C v in
-    let y : offered n o ≡ true = sym (c .before .before .before .before .before .before .before .before .before .before .before .before .before .before .is-offered .ensures) ∙ not-false _ (c .before .before .before .before .before .before .before .before .before .before .before .before .before .if2 .left) in
-    let e = c .before .before .before .before .before .before .before .before .before .before .numbers-of .result in
-    let to = c .before .before .before .before .before .before .before .before .numbers-of2 .result in
-    let op = opened f k C v e (c .before .before .before .before .before .before .before .before .before .before .before .release-of .result) (c .before .before .before .before .before .before .before .before .before .before .numbers-of .ensures) (c .before .before .before .before .before .before .before .before .before .before .before .release-of .ensures) in
-    let T = target n to (c .before .before .before .before .before .before .before .before .before .release-of2 .result) (c .before .before .before .before .before .before .before .before .numbers-of2 .ensures) (c .before .before .before .before .before .before .before .before .before .release-of2 .ensures) in
-    let K = known n to (c .before .before .before .before .before .before .before .before .before .release-of2 .result) (c .before .before .before .before .before .before .before .before .numbers-of2 .ensures) (c .before .before .before .before .before .before .before .before .before .release-of2 .ensures) in
-    let p = c .before .before .before .before .before .plan-of .result in
-    let P = c .before .before .before .before .before .plan-of .ensures in
-    let h = held-is f u A n o to T p P (c .before .before .before .is-held .result) (c .before .before .before .is-held .ensures) in
-    let z = h ∙ not-false _ (c .before .before .if3 .left) in
-    let w = not-held f u A n o to T p P y true z in
-    let x = length-is f u A n o to T p P in
-    refused-14 f n o d A w (lt-leb (length (rewritten f n o)) (length d) (omega (arith, x, c .before .if4 .taken))) (c .refused4 .result) (c .refused4 .ensures)
+returns-4 c = ready-14 (ready (c .before .before .before)) (c .before .before .before .before .before .before .before .before .before .before .before .before .before .before .before .before .before .before .before .before .args .out .now) (not-false _ (c .before .before .if3 .left)) (c .before .if4 .taken) (c .refused4 .result) (c .refused4 .ensures)
 
 put-all-requires : tie.Need-put-all-requires
 put-all-requires c κs =
-    let g = c .before .before .before .before .before .before .before .before .before .before .before .before .before .before .before .before .before .before .before .before in
-    let a = g .args in
-    let f = a .f .now in
-    let u : Bytes f = (λ i. omega (arith, c .before .before .before .before .before .before .before .before .before .before .before .before .before .before .before .before .before .before .before .shared-slice-known .given i)) in
-    let n = a .edition in
-    let o = a .order in
-    let d = a .out .now in
-    let k = c .before .before .before .before .before .before .before .before .before .before .before .before .before .before .before .before .before .check .result in
-    let C = c .before .before .before .before .before .before .before .before .before .before .before .before .before .before .before .before .before .check .ensures in
-    let v = c .before .before .before .before .before .before .before .before .before .before .before .before .before .before .before .if1 .left in
-    let A = accepted f k C v in
-    let y : offered n o ≡ true = sym (c .before .before .before .before .before .before .before .before .before .before .before .before .before .before .is-offered .ensures) ∙ not-false _ (c .before .before .before .before .before .before .before .before .before .before .before .before .before .if2 .left) in
-    let e = c .before .before .before .before .before .before .before .before .before .before .numbers-of .result in
-    let to = c .before .before .before .before .before .before .before .before .numbers-of2 .result in
-    let op = opened f k C v e (c .before .before .before .before .before .before .before .before .before .before .before .release-of .result) (c .before .before .before .before .before .before .before .before .before .before .numbers-of .ensures) (c .before .before .before .before .before .before .before .before .before .before .before .release-of .ensures) in
-    let T = target n to (c .before .before .before .before .before .before .before .before .before .release-of2 .result) (c .before .before .before .before .before .before .before .before .numbers-of2 .ensures) (c .before .before .before .before .before .before .before .before .before .release-of2 .ensures) in
-    let K = known n to (c .before .before .before .before .before .before .before .before .before .release-of2 .result) (c .before .before .before .before .before .before .before .before .numbers-of2 .ensures) (c .before .before .before .before .before .before .before .before .before .release-of2 .ensures) in
-    let p = c .before .before .before .before .before .plan-of .result in
-    let P = c .before .before .before .before .before .plan-of .ensures in
-    let h = held-is f u A n o to T p P (c .before .before .before .is-held .result) (c .before .before .before .is-held .ensures) in
-    let z = h ∙ not-false _ (c .before .before .if3 .left) in
-    let w = not-held f u A n o to T p P y true z in
-    let x = length-is f u A n o to T p P in
-    (op, c .before .before .before .before .before .before .source-of .ensures, holding f u A n o to T p P z, places-is f u A n o to T p P, subst (λ (l : List ℕ). length l ≤ length d) (sym (written-is f u A n o to T p P)) (omega (arith, x, c .before .if4 .left)))
+    let R = ready (c .before .before .before) in
+    let d = c .before .before .before .before .before .before .before .before .before .before .before .before .before .before .before .before .before .before .before .before .args .out .now in
+    (R .begun .opens, c .before .before .before .before .before .before .source-of .ensures, ready-holding R d (not-false _ (c .before .before .if3 .left)), ready-places R d, ready-room R d (omega (arith, c .before .if4 .left)))
 
 array-read-t19 : tie.Need-array-read-t19
 array-read-t19 c = search needs
@@ -238,32 +97,7 @@ same-length : tie.Need-same-length
 same-length c = search needs
 
 returns-5 : tie.Need-returns-5
-returns-5 c =
-    let g = c .before .before .before .before .before .before .before .before .before .before .before .before .before .before .before .before .before .before .before .before .before .before .before in
-    let a = g .args in
-    let f = a .f .now in
-    let u : Bytes f = (λ i. omega (arith, c .before .before .before .before .before .before .before .before .before .before .before .before .before .before .before .before .before .before .before .before .before .before .shared-slice-known .given i)) in
-    let n = a .edition in
-    let o = a .order in
-    let d = a .out .now in
-    let k = c .before .before .before .before .before .before .before .before .before .before .before .before .before .before .before .before .before .before .before .before .check .result in
-    let C = c .before .before .before .before .before .before .before .before .before .before .before .before .before .before .before .before .before .before .before .before .check .ensures in
-    let v = c .before .before .before .before .before .before .before .before .before .before .before .before .before .before .before .before .before .before .if1 .left in
-    let A = accepted f k C v in
-    let y : offered n o ≡ true = sym (c .before .before .before .before .before .before .before .before .before .before .before .before .before .before .before .before .before .is-offered .ensures) ∙ not-false _ (c .before .before .before .before .before .before .before .before .before .before .before .before .before .before .before .before .if2 .left) in
-    let e = c .before .before .before .before .before .before .before .before .before .before .before .before .before .numbers-of .result in
-    let to = c .before .before .before .before .before .before .before .before .before .before .before .numbers-of2 .result in
-    let op = opened f k C v e (c .before .before .before .before .before .before .before .before .before .before .before .before .before .before .release-of .result) (c .before .before .before .before .before .before .before .before .before .before .before .before .before .numbers-of .ensures) (c .before .before .before .before .before .before .before .before .before .before .before .before .before .before .release-of .ensures) in
-    let T = target n to (c .before .before .before .before .before .before .before .before .before .before .before .before .release-of2 .result) (c .before .before .before .before .before .before .before .before .before .before .before .numbers-of2 .ensures) (c .before .before .before .before .before .before .before .before .before .before .before .before .release-of2 .ensures) in
-    let K = known n to (c .before .before .before .before .before .before .before .before .before .before .before .before .release-of2 .result) (c .before .before .before .before .before .before .before .before .before .before .before .numbers-of2 .ensures) (c .before .before .before .before .before .before .before .before .before .before .before .before .release-of2 .ensures) in
-    let p = c .before .before .before .before .before .before .before .before .plan-of .result in
-    let P = c .before .before .before .before .before .before .before .before .plan-of .ensures in
-    let h = held-is f u A n o to T p P (c .before .before .before .before .before .before .is-held .result) (c .before .before .before .before .before .before .is-held .ensures) in
-    let z = h ∙ not-false _ (c .before .before .before .before .before .if3 .left) in
-    let w = not-held f u A n o to T p P y true z in
-    let x = length-is f u A n o to T p P in
-    let q = subst (λ (l : List ℕ). Puts l d (c .before .before .put-all .last .0) (c .before .before .put-all .result)) (written-is f u A n o to T p P) (c .before .before .put-all .ensures) in
-    result f n o d A w (omega (arith, x, c .before .before .before .before .if4 .left)) (c .before .before .put-all .last .0) (getD (p .places) 13 0) (c .before .before .put-all .result) q x
+returns-5 c = ready-done (ready (c .before .before .before .before .before .before)) (c .before .before .before .before .before .before .before .before .before .before .before .before .before .before .before .before .before .before .before .before .before .before .before .args .out .now) (not-false _ (c .before .before .before .before .before .if3 .left)) (omega (arith, c .before .before .before .before .if4 .left)) (c .before .before .put-all .last .0) (c .before .before .put-all .result) (c .before .before .put-all .ensures)
 
 pub rewrite-spec : {M : Type 1} → statement M
 rewrite-spec =
