@@ -1,0 +1,116 @@
+// Cells one after another, down a column or along a row, for callers who read many: none costs more than its own bytes and, along a row, its
+// type code.
+use cells::Said;
+use checking::Layout;
+use columns::Column;
+ghost use mathlib.Core.Path.{_≡_};
+ghost use mathlib.Core.List.{_++_};
+ghost use Prim.Native.Nat.{ℕ, _+_, _/_, _≤_};
+ghost use lib.ListN.{length, drop};
+ghost use Rattle.questions.specs.Ask.{answerOf, askColumn, askCell};
+ghost use Rattle.checking.specs.Checks.{layoutBy};
+ghost use Rattle.columns.specs.Columns.{capped, columnBy};
+ghost use Rattle.cells.specs.Cells.{saidOf};
+ghost use Rattle.coded.specs.Coded as Coded;
+ghost use Rattle.coded.specs.Coded.{numbersOf, Tells};
+
+// A sum, or the greatest number where it is greater.
+fn add_capped(a: u64, b: u64) -> u64
+    ensures { λ r. ⌜ r ≡ capped (a + b) ⌝ }
+{
+    if a <= 18446744073709551615 - b {
+        a + b
+    } else {
+        18446744073709551615
+    }
+}
+
+// Where the cells of variable `i + 1` stand, where `c` is where those of variable `i` do.
+fn column_after(f: &[u8], l: Layout, c: Column, i: u64) -> Column
+    requires { ⌜ (c ≡ columnBy (answerOf (now f) (layoutBy l) (askColumn i))) × (1 ≤ i) × (i + 1 ≤ l .k) ⌝ }
+    ensures { λ r. ⌜ r ≡ columnBy (answerOf (now (f .entry)) (layoutBy l) (askColumn (i + 1))) ⌝ }
+{
+    let o = reading::edition_in(l.edition, l.order);
+    if c.code != 0 {
+        return c;
+    }
+    let p = l.places[2] + reading::tag_size(o.e.tagged, 16);
+    let x = data::field_at(f, p as usize, i as usize, o.e.tagged, o.msf);
+    let kind = x.kind;
+    Column {
+        code: 0,
+        kind,
+        width: x.width,
+        offset: add_capped(c.offset, c.width as u64),
+        row: c.row,
+    }
+}
+
+// The lesser.
+fn least(a: usize, b: u64) -> usize
+    ensures { λ r. ⌜ r ≡ Coded.least a b ⌝ }
+{
+    if a as u64 <= b { a } else { b as usize }
+}
+
+// How many numbers there are from `i` up to `k`.
+fn following(i: u64, k: u64) -> u64
+    ensures { λ r. ⌜ r ≡ Coded.following i k ⌝ }
+{
+    if i == 0 {
+        return 0;
+    }
+    if k < i {
+        return 0;
+    }
+    k - i + 1
+}
+
+// How many answers of four numbers `room` numbers can hold, at most those from `i` up to `k`.
+pub fn how_many(room: usize, i: u64, k: u64) -> usize
+    ensures { λ r. ⌜ r ≡ Coded.least (room / 4) (Coded.following i k) ⌝ }
+{
+    least(room / 4, following(i, k))
+}
+
+// Stores what a cell says at the start of `out`.
+fn put_said(out: &mut [u64], x: Said)
+    requires { ⌜ 4 ≤ length (now out) ⌝ }
+    ensures { λ _. ⌜ now (out .exit) ≡ numbersOf (saidOf x) ++ drop 4 (now (out .entry)) ⌝ }
+{
+    coded::put_four(out, coded::numbers_of(asking::by_cell(x)));
+}
+
+// The cells of variable `i` from observation `j` on, four numbers each, as many as `out` has room for; gives how many.
+pub fn cells_down(f: &[u8], l: Layout, i: u64, j: u64, out: &mut [u64]) -> usize
+    ensures { λ r. ⌜ Tells (now (f .entry)) (layoutBy l) (λ (m : ℕ). askCell i (j + m)) (Coded.following j (l .n)) (now (out .entry)) (now (out .exit)) r ⌝ }
+{
+    let n = how_many(out.len(), j, l.n);
+    let c = columns::column_of(f, l, i);
+    let mut m: usize = 0;
+    while m < n {
+        let x = cells::cell_in_column(f, l, c, i, j + m as u64);
+        put_said(&mut out[m * 4..], x);
+        m += 1;
+    }
+    n
+}
+
+// The cells of observation `j` from variable `i` on, four numbers each, as many as `out` has room for; gives how many.
+pub fn cells_along(f: &[u8], l: Layout, i: u64, j: u64, out: &mut [u64]) -> usize
+    ensures { λ r. ⌜ Tells (now (f .entry)) (layoutBy l) (λ (m : ℕ). askCell (i + m) j) (Coded.following i (l .k)) (now (out .entry)) (now (out .exit)) r ⌝ }
+{
+    let n = how_many(out.len(), i, l.k);
+    let mut c = columns::column_of(f, l, i);
+    let mut m: usize = 0;
+    while m < n {
+        let v = i + m as u64;
+        let x = cells::cell_in_column(f, l, c, v, j);
+        put_said(&mut out[m * 4..], x);
+        m += 1;
+        if m < n {
+            c = column_after(f, l, c, v);
+        }
+    }
+    n
+}
