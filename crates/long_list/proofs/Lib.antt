@@ -1,0 +1,5 @@
+pub mod ListsLaws
+pub mod OpenLaws
+pub mod TellLaws
+pub mod LongLaws
+pub mod LongsAt

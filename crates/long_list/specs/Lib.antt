@@ -1,0 +1,4 @@
+pub mod Opens
+pub mod Lists
+pub mod Told
+pub mod Longs

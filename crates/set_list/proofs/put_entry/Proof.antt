@@ -1,0 +1,52 @@
+-- `set_list::put_entry` meets its contract.
+use mathlib.Core.Path.{ap, _∙_}
+use mathlib.Core.List.{[], _∷_}
+use Prim.Native.Nat.{ℕ, _+_, _-_}
+use lib.ListN.{length}
+use borrow.Author.Needs.{needs}
+use Rattle.format.specs.Grammar.{textAt}
+use Rattle.set_list.proofs.EntryLaws.{puts-as}
+use Rattle.set_list.proofs.put_entry.Statement.{statement}
+use Rattle.set_list.proofs.put_entry.Tie as tie
+
+number-requires : tie.Need-number-requires
+number-requires c κs = search needs
+
+number-requires-2 : tie.Need-number-requires-2
+number-requires-2 c κs = search needs
+
+add-t : tie.Need-add-t
+add-t c = search needs
+
+sub-text-len : tie.Need-sub-text-len
+sub-text-len c = search needs
+
+text-len-requires : tie.Need-text-len-requires
+text-len-requires c κs = search needs
+
+put-three-requires : tie.Need-put-three-requires
+put-three-requires c κs = search needs
+
+same-length : tie.Need-same-length
+same-length c = search needs
+
+returns : tie.Need-returns
+returns c =
+    let a = c .before .before .before .before .before .before .before .before .before .args in
+    let v = c .before .before .before .before .before .before .number .ensures .is in
+    let y = c .before .before .before .before .before .number2 .ensures .is in
+    let k = c .before .before .before .before .text-len .ensures .is ∙ ap (λ (z : ℕ). length (textAt (a .x - z) (a .f .now) (a .a + z))) y in
+    puts-as (λ i. v i ∷ (a .a + y i) ∷ k i ∷ []) (c .before .before .put-three .ensures)
+
+pub put-entry-spec : {M : Type 1} → statement M
+put-entry-spec =
+    tie.close
+    (tie.spec
+    number-requires
+    number-requires-2
+    add-t
+    sub-text-len
+    text-len-requires
+    put-three-requires
+    same-length
+    returns)
