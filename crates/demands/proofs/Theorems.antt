@@ -24,6 +24,7 @@ use Rattle.demands.proofs.CheckLaws.{check-given}
 use Rattle.demands.proofs.AskLaws.{ask-given}
 use Rattle.demands.proofs.LabelLaws.{words-given}
 use Rattle.demands.proofs.RewriteLaws.{rewrite-given, done-take, offered-edition, offered-order, all-offered, same-rewrite}
+use Rattle.demands.proofs.ListLaws.{lists-given, same-long-list, same-set-list}
 
 pub demand-1 : Demand1
 demand-1 = record { checked = check-given; asked = ask-given; rewrote = rewrite-given }
@@ -92,6 +93,7 @@ demand-2 =
       words = words;
       exact = label-exact;
       found-by = λ f c A. label-found f (A .is-file) (ok f c A) _;
+      listed = λ f c A. lists-given f (A .is-file) (ok f c A);
       offers = all-offered;
       can-hold = can-hold;
       back = back;
@@ -127,5 +129,7 @@ demand-3 =
       checked = same-check;
       dataset = λ f g c A D. alike f g c A D .dataset;
       asked = same-asked;
+      longs = λ f g c A D. same-long-list f (A .is-file) (ok f c A) g (D .long) (same f g c A D);
+      sets = λ f g c A D. same-set-list f (A .is-file) (ok f c A) g (D .long) (same f g c A D);
       rewrote = λ f g c A D e o. same-rewrite f g (alike f g c A D .accepted ∙ sym (ok f c A)) (alike f g c A D .dataset) e o;
     }

@@ -3,11 +3,12 @@
 -- A file is any list of bytes. `Checks f r` is what `check` promises: r is its answer for the file f. `Rewrites f e o d w r` is what
 -- `rewrite` promises: r is its answer for the file f, the edition e and the byte order o, with an output that held d and then holds w. A
 -- question q over the file f and any layout l, right or wrong, is answered `answerOf f l q`: what each function that takes a layout promises,
--- for its own question. That each call ends is part of each function's proof, as is that it needs nothing of the file, the layout and the
--- numbers that it is given.
+-- for its own question. `Lists f t d w r` is what `long_list` and `set_list` promise: r is the answer for the file f, of which the numbers t are
+-- told, `longsOf f` or `setsOf f`, into a slice that held d and then holds w. That each call ends is part of each function's proof, as is that it
+-- needs nothing of the file, the layout and the numbers that it is given.
 use mathlib.Core.Path.{_≡_}
-use Prim.Native.Nat.{ℕ, _+_, _≤_, _<_}
-use mathlib.Core.List.{List, [], _++_}
+use Prim.Native.Nat.{ℕ, zero, suc, _+_, _≤_, _<_}
+use mathlib.Core.List.{List, [], _∷_, _++_, map}
 use mathlib.Core.Logic.{_⊎_}
 use mathlib.Core.Bool.{true, false, _&&_}
 use lib.ListN.{length, getD, take, drop}
@@ -16,6 +17,7 @@ use lib.IntN.{ℤ}
 use Rattle.format.specs.Slot.{Fits, Bytes}
 use Rattle.format.specs.Number.{Order}
 use Rattle.format.specs.Edition.{Release, edition, orderMark}
+use Rattle.format.specs.Data.{LongString}
 use Rattle.format.specs.Labels.{Table, LabelBlock}
 use Rattle.format.specs.Variables.{nonempty}
 use Rattle.format.specs.Cells.{signedBy, seeks, keyOf}
@@ -25,8 +27,12 @@ use Rattle.format.specs.Dead.{DeadPlace}
 use Rattle.checking.specs.declared.Checked.{Checked}
 use Rattle.checking.specs.Checks.{Checks, layoutBy}
 use Rattle.questions.specs.Readings.{Try, none, got, bind}
-use Rattle.questions.specs.Ask.{Question, askWords, Answer, refused, releaseIn, orderIn, inRange, answerIn, answerOf, shown}
+use Rattle.questions.specs.Ask.{Question, askWords, Answer, refused, releaseIn, orderIn, inRange, answerIn, answerOf, slice, shown}
 use Rattle.questions.specs.Fact.{cellSays, cellAsked, typeAsked, setAsked, labelAt, slotFact, factOf, bytesOf}
+use Rattle.long_list.specs.declared.Listed.{Listed}
+use Rattle.long_list.specs.Lists.{Lists}
+use Rattle.long_list.specs.Longs.{longsOf}
+use Rattle.set_list.specs.Sets.{setsOf}
 use Rattle.rewriting.specs.declared.Rewritten.{Rewritten}
 use Rattle.rewriting.specs.Rewriting.{editionTo, orderTo, offered, held, rewritten, Rewrites}
 
@@ -142,6 +148,42 @@ pub record WordsGiven (d : Dataset) (i j : ℕ) (lent shows : List ℕ) : Type 0
   pub label : (n m : ℕ) → LabelOf d i j n m → shows ≡ labelAt (blockAt d n .entries) m
   pub plain : ((n m : ℕ) → LabelOf d i j n m → ⊥) → shows ≡ lent
 
+-- the bytes that a list of long strings names in f: of each five numbers, the fourth is a place and the fifth a length
+abbrev pub longsShown : List ℕ → List ℕ → List (List ℕ)
+longsShown f [] = []
+longsShown f (v ∷ []) = []
+longsShown f (v ∷ o ∷ []) = []
+longsShown f (v ∷ o ∷ kind ∷ []) = []
+longsShown f (v ∷ o ∷ kind ∷ p ∷ []) = []
+longsShown f (v ∷ o ∷ kind ∷ p ∷ n ∷ t) = slice f p n ∷ longsShown f t
+
+-- the bytes that a list of label sets names in f, with m entries to come before the next set. Three numbers of a set: place and length of its
+-- name, and how many entries it has; of an entry: its value, and place and length of its text
+abbrev pub threesShown : List ℕ → ℕ → List ℕ → List (List ℕ)
+threesShown f m [] = []
+threesShown f m (a ∷ []) = []
+threesShown f m (a ∷ b ∷ []) = []
+threesShown f zero (p ∷ n ∷ entries ∷ t) = slice f p n ∷ threesShown f entries t
+threesShown f (suc m) (value ∷ p ∷ n ∷ t) = slice f p n ∷ threesShown f m t
+
+abbrev pub setsShown : List ℕ → List ℕ → List (List ℕ)
+setsShown f t = threesShown f 0 t
+
+-- the labels of the first n slots of a table
+abbrev pub labelsTo : Table → ℕ → List (List ℕ)
+labelsTo t zero = []
+labelsTo t (suc n) = labelsTo t n ++ (labelAt t n ∷ [])
+
+-- of each label block, its name and then its labels
+abbrev pub blockTexts : List LabelBlock → List (List ℕ)
+blockTexts [] = []
+blockTexts (b ∷ l) = b .setName ∷ (labelsTo (b .entries) (length (b .entries .offsets)) ++ blockTexts l)
+
+-- the bytes that the two lists of f name are the dataset's: the contents of each long string; each label set's name and labels
+pub record ListsGiven (f : List ℕ) : Type 0 where
+  pub longs : longsShown f (longsOf f) ≡ map (λ (r : LongString). r .contents) (datasetOf f .longStrings)
+  pub sets : setsShown f (setsOf f) ≡ blockTexts (datasetOf f .labelBlocks)
+
 -- g is accepted, is of edition e and byte order o and says the dataset of f
 pub record ReadsBack (f : List ℕ) (e o : ℕ) (g : List ℕ) : Type 0 where
   pub accepted : (c : Checked) → Checks g c → Accepted g c
@@ -165,6 +207,8 @@ pub record Demand2 : Type 0 where
   pub found-by : (f : List ℕ) (c : Checked) → Accepted f c → (n : ℕ) → n < length (datasetOf f .labelBlocks)
       → let t = blockAt (datasetOf f) n .entries in
       (m : ℕ) → m < length (t .offsets) → slotFact (valueAt t m) t ≡ found m
+  -- the lists of long strings and label sets
+  pub listed : (f : List ℕ) (c : Checked) → Accepted f c → ListsGiven f
   -- each edition that is read is offered, in either byte order
   pub offers : (r : Release) (o : Order) → offered (edition r .number) (orderMark o) ≡ true
   -- what an edition can hold of a dataset that was read: the types that it has (no strL and no text wider than 244 in 113 and 114), display
@@ -189,12 +233,21 @@ pub record SameAnswer (f g : List ℕ) (l : Layout) (q : Question) : Type 0 wher
   pub answer : answerOf g l q ≡ answerOf f l q
   pub bytes : shown g (answerOf g l q) ≡ shown f (answerOf f l q)
 
+-- a list of numbers, told of f and of g, and the bytes that they name: the same answer, into slices that held the same before, of any length,
+-- and the same bytes
+pub record SameList (f g : List ℕ) (told : List ℕ → List ℕ) (names : List ℕ → List ℕ → List (List ℕ)) : Type 0 where
+  pub answer : (d v w : List ℕ) (a b : Listed) → Lists f (told f) d v a → Lists g (told g) d w b → (b ≡ a) × (w ≡ v)
+  pub bytes : names g (told g) ≡ names f (told f)
+
 pub record Demand3 : Type 0 where
   -- verdict and layout; dataset
   pub checked : (f g : List ℕ) (c : Checked) → Accepted f c → DifferInDead f g → (b : Checked) → Checks g b → b ≡ c
   pub dataset : (f g : List ℕ) (c : Checked) → Accepted f c → DifferInDead f g → datasetOf g ≡ datasetOf f
   -- answers
   pub asked : (f g : List ℕ) (c : Checked) → Accepted f c → DifferInDead f g → (q : Question) → SameAnswer f g (layoutBy (c .layout)) q
+  -- lists: of long strings, of label sets
+  pub longs : (f g : List ℕ) (c : Checked) → Accepted f c → DifferInDead f g → SameList f g longsOf longsShown
+  pub sets : (f g : List ℕ) (c : Checked) → Accepted f c → DifferInDead f g → SameList f g setsOf setsShown
   -- rewritten output: into buffers that held the same before, of any length, to any target
   pub rewrote : (f g : List ℕ) (c : Checked) → Accepted f c → DifferInDead f g → (e o : ℕ) (d v w : List ℕ) (r s : Rewritten)
       → Rewrites f e o d v r → Rewrites g e o d w s → (s ≡ r) × (w ≡ v)
