@@ -1,17 +1,17 @@
 -- Answers laid over a slice one after another, four numbers each.
-use mathlib.Core.Path.{_≡_, refl, sym, ap, _∙_, subst}
-use Prim.Native.Nat.{ℕ, zero, suc, _+_, _-_, _*_, _/_, _≤_, _<_}
-use native.Mathlib.Nat.{suc-mul, zero-mul, le-div-iff-mul-le}
+use mathlib.Core.Path.{_≡_, refl, sym, ap, _∙_}
+use Prim.Native.Nat.{ℕ, suc, _+_, _-_, _*_, _/_, _≤_, _<_}
+use native.Mathlib.Nat.{zero-mul}
 use native.Mathlib.Numerals.{add-one}
 use native.Mathlib.Omega.{arith}
-use mathlib.Core.List.{List, [], _∷_, _++_}
+use mathlib.Core.List.{List, _++_}
 use mathlib.Core.Bool.{Bool, true, false, cond}
 use borrow.Rule.Slice.PartMut.{putMid}
-use borrow.Author.Tests.{le-leb, lt-leb, leb-true, leb-false, lt-ltb, le-ltb}
+use borrow.Author.Tests.{le-leb, lt-leb, leb-true, leb-false, lt-ltb}
 use lib.ListN.{length, take, drop}
 use lib.Dec.{leb}
 use lib.IntN.{pos, negsuc}
-use Rattle.format.specs.Cells.{Says, whole, single, double, letter, between, outside, words, reference}
+use Rattle.format.specs.Cells.{whole, single, double, letter, between, outside, words, reference}
 use Rattle.format.specs.Dta.{Layout}
 use Rattle.text.proofs.Lay.{Laid, laid-none, laid-part, laid-as}
 use Rattle.questions.specs.Ask.{Question, Answer, refused, count, mark, typed, part, column, cell, plain, long, answerOf, among}

@@ -1,20 +1,24 @@
 use cell::Key;
+use cells::Said;
 use checking::Layout;
 use editions::Edition;
+use walks::LabelSet;
 use walks::Words;
 ghost use mathlib.Core.Path.{_≡_};
 ghost use Prim.Native.Nat.{_≤_};
 ghost use Rattle.format.specs.Number.{orderBy};
 ghost use Rattle.questions.specs.Ask.{answerOf, askWords, slice, shown};
 ghost use Rattle.checking.specs.Checks.{layoutBy};
-ghost use Rattle.label_words.specs.Words.{setSaid, wordsAsked};
+ghost use Rattle.cell.specs.Cells.{says, Lettered};
+ghost use Rattle.label_words.specs.Words.{setSaid, wordsAsked, SetOf, CellWords};
 ghost use Rattle.walks.specs.Answers.{Worded};
+ghost use Rattle.walks.specs.Walks.{IsSet};
 ghost use Rattle.editions.specs.Editions.{numbersOf};
 
-// The words for the value `q` of variable `i`: its label set's; the plain text where it has none.
-fn set_words(f: &[u8], l: Layout, e: Edition, i: u64, msf: bool, q: i32) -> Words
+// The label set of variable `i`; one without labels where the variable has none.
+fn set_in(f: &[u8], l: Layout, e: Edition, i: u64, msf: bool) -> LabelSet
     requires { ⌜ e .«name_width» ≤ 65535 ⌝ }
-    ensures { λ r. ⌜ Worded (setSaid (numbersOf e) (orderBy msf) (now (f .entry)) (layoutBy l) i q) r ⌝ }
+    ensures { λ r. ⌜ IsSet (now (f .entry)) (setSaid (numbersOf e) (orderBy msf) (now (f .entry)) (layoutBy l) i) r ⌝ }
 {
     let w = e.name_width;
     let p = reading::place_in(
@@ -25,21 +29,21 @@ fn set_words(f: &[u8], l: Layout, e: Edition, i: u64, msf: bool, q: i32) -> Word
         w as u64,
     );
     if !p.there {
-        return walks::no_words(17);
+        return walks::no_set(17);
     }
     let n = reading::text_in(f, p.value, w);
     if !n.there {
-        return walks::no_words(17);
+        return walks::no_set(17);
     }
     if n.value == 0 {
-        return walks::no_words(0);
+        return walks::no_set(0);
     }
     let end = reading::less(l.places[12], reading::tag_size(e.tagged, 15));
     if end <= l.places[11] {
-        return walks::no_words(0);
+        return walks::no_set(0);
     }
     let start = l.places[11] + reading::tag_size(e.tagged, 14);
-    walks::blocks(
+    walks::find_block(
         f,
         start,
         end,
@@ -47,26 +51,43 @@ fn set_words(f: &[u8], l: Layout, e: Edition, i: u64, msf: bool, q: i32) -> Word
         w,
         p.value as usize,
         n.value as usize,
-        q,
         msf,
     )
 }
 
-// The label words of cell `i`, `j`: where they stand, or that the plain text is shown.
-pub fn label_words(f: &[u8], l: Layout, i: u64, j: u64) -> Words
-    ensures { λ r. ⌜ Worded (wordsAsked (now (f .entry)) (layoutBy l) i j) r ⌝ }
+// The label set of variable `i`, for as many cells as the caller asks of it.
+pub fn set_of(f: &[u8], l: Layout, i: u64) -> LabelSet
+    ensures { λ r. ⌜ SetOf (now (f .entry)) (layoutBy l) i r ⌝ }
 {
     let o = reading::edition_in(l.edition, l.order);
-    let c = cells::cell_of(f, l, i, j);
+    if !o.there {
+        return walks::no_set(17);
+    }
+    set_in(f, l, o.e, i, o.msf)
+}
+
+// The label words of a cell that says `c`, of a variable with the label set `s`.
+pub fn cell_words(f: &[u8], s: LabelSet, c: Said) -> Words
+    requires { ⌜ Lettered (says (c .cell)) ⌝ }
+    ensures { λ r. ⌜ CellWords (now (f .entry)) s c r ⌝ }
+{
     if c.code != 0 {
         return walks::no_words(c.code);
     }
     let cell = c.cell;
     let key = cell::key_of(cell);
     match key {
-        Key::Seeks(q) => set_words(f, l, o.e, i, o.msf, q),
+        Key::Seeks(q) => walks::words_in(f, s, q),
         Key::Nothing => walks::no_words(0),
     }
+}
+
+// The label words of cell `i`, `j`: where they stand, or that the plain text is shown.
+pub fn label_words(f: &[u8], l: Layout, i: u64, j: u64) -> Words
+    ensures { λ r. ⌜ Worded (wordsAsked (now (f .entry)) (layoutBy l) i j) r ⌝ }
+{
+    let c = cells::cell_of(f, l, i, j);
+    cell_words(f, set_of(f, l, i), c)
 }
 
 // The `len` bytes at `at`, as many of them as the file has.

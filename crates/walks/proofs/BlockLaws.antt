@@ -7,20 +7,24 @@ use mathlib.Core.Bool.{Bool, true, false, cond, _&&_, and-false, false≢true}
 use lib.ListN.{length, getD, take, drop, length-drop}
 use lib.Seq.{length-take-le}
 use native.Mathlib.Nat.{add-sub-cancel-left}
-use lib.Dec.{eqb, leb, ltb}
+use lib.Dec.{eqb}
 use lib.IntN.{ℤ}
 use borrow.Author.Tests.{le-leb, lt-leb, lt-ltb, le-ltb, eq-eqb, ne-eqb, eqb-true, eqb-false}
-use Rattle.format.specs.Number.{Order, num}
+use Rattle.format.specs.Number.{Order, orderBy}
 use Rattle.format.specs.Grammar.{textAt, sameAt}
 use Rattle.format.specs.Dta.{sameList}
-use Rattle.questions.specs.Readings.{Try, none, got, bind, test, numberIn, textIn}
-use Rattle.questions.specs.Ask.{Answer, refused, plain, orRefused, slice, tableIn, headSize, blockIn, blocksIn}
+use Rattle.questions.specs.Readings.{Try, none, got, bind, numberIn, textIn}
+use Rattle.questions.specs.Ask.{Answer, refused, plain, orRefused, slice, tableIn, blockIn, blocksIn}
 use Rattle.reading.specs.declared.Read.{Read}
 use Rattle.reading.specs.Reads.{tryOf, lengthIn}
 use Rattle.reading.proofs.ReadLaws.{read-none, read-got}
 use Rattle.walks.specs.declared.Block.{Block}
-use Rattle.walks.specs.Walks.{tableWords, openSize, closeSize, nameAt, tableAt, noBlock, BlockGot, IsBlock, sameName, blockWords}
-use Rattle.walks.proofs.TextLaws.{TextGot, text-none, text-got}
+use Rattle.walks.specs.declared.LabelSet.{LabelSet}
+use Rattle.walks.specs.declared.Words.{Words}
+use Rattle.walks.specs.Answers.{noWords, Worded}
+use Rattle.walks.specs.Walks.{tableWords, openSize, closeSize, nameAt, tableAt, noBlock, BlockGot, IsBlock, sameName, blockWords, noSet, setSays, IsSet}
+use Rattle.walks.proofs.TableLaws.{worded-plain, worded-same}
+use Rattle.walks.proofs.TextLaws.{text-none, text-got}
 
 -- ---- one block
 
@@ -101,46 +105,78 @@ module _ (f : List ℕ) (p n a m : ℕ) where
   unfolding sameName
   name-is w e h = same-name-is w f p n (slice f a m) m e (sym (length-take-le m (drop a f) (simp length-drop (omega arith))))
 
+-- ---- a set without a table
+
+module _ (f : List ℕ) (a : ℤ → List ℕ → Answer) (r : LabelSet) where
+  pub refused-set : r ≡ noSet 17 → ((q : ℤ) (t : List ℕ) → a q t ≡ refused 17) → IsSet f a r
+  refused-set e h = subst (IsSet f a) (sym e) λ q t. sym (h q t)
+
+  pub plain-set : r ≡ noSet 0 → ((q : ℤ) (t : List ℕ) → a q t ≡ plain t) → IsSet f a r
+  plain-set e h = subst (IsSet f a) (sym e) λ q t. sym (h q t)
+
 -- ---- the walk
 
 -- a loop that looks for the block from `start` on has come to p
-pub record Come (t : Bool) (w : ℕ) (o : Order) (f s : List ℕ) (q : ℤ) (z start p : ℕ) : Type 0 where
+pub record Come (t : Bool) (w : ℕ) (o : Order) (f s : List ℕ) (z start p : ℕ) : Type 0 where
   pub turns : ℕ
   pub enough : length f < p + suc turns
-  pub rest : (lent : List ℕ) → blockWords t w o f s q z start lent ≡ orRefused (blocksIn t w o f lent q s z (suc turns) p)
+  pub rest : (q : ℤ) (lent : List ℕ) → blockWords t w o f s q z start lent ≡ orRefused (blocksIn t w o f lent q s z (suc turns) p)
 
-module _ (t : Bool) (w : ℕ) (o : Order) (f s : List ℕ) (q : ℤ) (z start : ℕ) where
-  pub starts : Come t w o f s q z start start
+module _ (t : Bool) (w : ℕ) (m : Bool) (f s : List ℕ) (z start : ℕ) where
+  abbrev o : Order
+  o = orderBy m
+
+  abbrev sought : ℤ → List ℕ → Answer
+  sought q = blockWords t w o f s q z start
+
+  pub starts : Come t w (orderBy m) f s z start start
   unfolding blockWords
-  starts = record { turns = length f; enough = omega arith; rest = λ lent. refl }
+  starts = record { turns = length f; enough = omega arith; rest = λ q lent. refl }
 
-  module _ (p : ℕ) (c : Come t w o f s q z start p) where
-    pub come-plain : z ≤ p → (lent : List ℕ) → blockWords t w o f s q z start lent ≡ plain lent
-    come-plain h lent = c .rest lent ∙ (rw (le-ltb p z h))
+  module _ (p : ℕ) (c : Come t w (orderBy m) f s z start p) where
+    pub come-plain : z ≤ p → (r : LabelSet) → r ≡ noSet 0 → IsSet f sought r
+    come-plain h r e = plain-set f sought r e λ q lent. c .rest q lent ∙ (rw (le-ltb p z h))
 
     module _ (h : p < z) where
-      pub come-gone : blockIn t w o f z p ≡ none → (lent : List ℕ) → blockWords t w o f s q z start lent ≡ refused 17
-      come-gone b lent = c .rest lent ∙ (rw (lt-ltb p z h, b))
+      pub come-gone : blockIn t w (orderBy m) f z p ≡ none → (r : LabelSet) → r ≡ noSet 17 → IsSet f sought r
+      come-gone b r e = refused-set f sought r e λ q lent. c .rest q lent ∙ (rw (lt-ltb p z h, b))
 
-      module _ (n m : ℕ) (g : BlockGot t w o f z p n m) where
-        step : (k : ℕ) (lent : List ℕ) → blocksIn t w o f lent q s z (suc k) p
+      module _ (n k : ℕ) (g : BlockGot t w (orderBy m) f z p n k) where
+        step : (k : ℕ) (q : ℤ) (lent : List ℕ) → blocksIn t w o f lent q s z (suc k) p
             ≡ cond (sameList (textAt w f (nameAt t p)) s) (tableIn o f lent q n (tableAt t w p)) (blocksIn t w o f lent q s z k (tableAt t w p + n + closeSize t))
-        step k lent = rw (lt-ltb p z h, g .is)
+        step k q lent = rw (lt-ltb p z h, g .is)
 
-        pub come-here : true ≡ sameList (textAt w f (nameAt t p)) s → (lent : List ℕ)
-            → blockWords t w o f s q z start lent ≡ tableWords o f (tableAt t w p) n q lent
+        pub come-here : true ≡ sameList (textAt w f (nameAt t p)) s → (a : ℕ) → a ≡ tableAt t w p
+            → IsSet f sought (record { code = 0; found = true; at = a; len = n; msf = m })
         unfolding tableWords
-        come-here e lent = c .rest lent ∙ ap orRefused (step (c .turns) lent) ∙ ap (λ (b : Bool). orRefused (cond b (tableIn o f lent q n (tableAt t w p)) (blocksIn t w o f lent q s z (c .turns) (tableAt t w p + n + closeSize t)))) (sym e)
+        come-here e a A q lent =
+            sym
+            (c .rest q lent ∙ ap orRefused (step (c .turns) q lent)
+            ∙ ap (λ (b : Bool). orRefused (cond b (tableIn o f lent q n (tableAt t w p)) (blocksIn t w o f lent q s z (c .turns) (tableAt t w p + n + closeSize t)))) (sym e)
+            ∙ ap (λ (x : ℕ). orRefused (tableIn o f lent q n x)) (sym A))
 
-        pub come-on : false ≡ sameList (textAt w f (nameAt t p)) s → Come t w o f s q z start (tableAt t w p + n + closeSize t)
+        pub come-on : false ≡ sameList (textAt w f (nameAt t p)) s → Come t w (orderBy m) f s z start (tableAt t w p + n + closeSize t)
         come-on e = go (c .turns) (c .enough) (c .rest)
           where
-            go : (k : ℕ) → length f < p + suc k → ((lent : List ℕ) → blockWords t w o f s q z start lent ≡ orRefused (blocksIn t w o f lent q s z (suc k) p))
-                → Come t w o f s q z start (tableAt t w p + n + closeSize t)
+            go : (k : ℕ) → length f < p + suc k → ((q : ℤ) (lent : List ℕ) → blockWords t w o f s q z start lent ≡ orRefused (blocksIn t w o f lent q s z (suc k) p))
+                → Come t w o f s z start (tableAt t w p + n + closeSize t)
             go zero b r = absurd (omega (arith, g .inside))
             go (suc k) b r =
                 record {
                   turns = k;
                   enough = omega (arith, g .inside);
-                  rest = λ lent. r lent ∙ ap orRefused (step (suc k) lent) ∙ ap (λ (b : Bool). orRefused (cond b (tableIn o f lent q n (tableAt t w p)) (blocksIn t w o f lent q s z (suc k) (tableAt t w p + n + closeSize t)))) (sym e);
+                  rest = λ q lent. r q lent ∙ ap orRefused (step (suc k) q lent) ∙ ap (λ (b : Bool). orRefused (cond b (tableIn o f lent q n (tableAt t w p)) (blocksIn t w o f lent q s z (suc k) (tableAt t w p + n + closeSize t)))) (sym e);
                 }
+
+-- ---- a set that was found
+
+module _ (f : List ℕ) (s : LabelSet) (q : ℤ) where
+  pub set-refused : (s .code ≡ 0 → ⊥) → (r : Words) → r ≡ noWords (s .code) → Worded (setSays f s q) r
+  set-refused z r e = subst (Worded (setSays f s q)) (sym e) (record { is = λ t. rw (ne-eqb (s .code) 0 z); alone = λ k. refl })
+
+  module _ (c : s .code ≡ 0) where
+    pub set-plain : s .found ≡ false → (r : Words) → r ≡ noWords 0 → Worded (setSays f s q) r
+    set-plain h r e = worded-plain (setSays f s q) r e λ t. rw (eq-eqb (s .code) 0 c, h)
+
+    pub set-table : s .found ≡ true → (r : Words) → Worded (tableWords (orderBy (s .msf)) f (s .at) (s .len) q) r → Worded (setSays f s q) r
+    set-table h r W = worded-same (tableWords (orderBy (s .msf)) f (s .at) (s .len) q) (setSays f s q) r (λ t. rw (eq-eqb (s .code) 0 c, h)) W

@@ -6,14 +6,15 @@ use mathlib.Core.Bool.{Bool, true, false, cond, _&&_}
 use lib.ListN.{length}
 use lib.Dec.{eqb, leb}
 use lib.IntN.{ℤ}
-use Rattle.format.specs.Number.{Order, num}
+use Rattle.format.specs.Number.{Order, orderBy, num}
 use Rattle.format.specs.Grammar.{textAt, sameAt}
 use Rattle.format.specs.Edition.{opening, closing, n-lbl}
 use Rattle.format.specs.Search.{searchAt}
 use Rattle.questions.specs.Readings.{Try, none, got}
-use Rattle.questions.specs.Ask.{Answer, orRefused, recordHead, recordsIn, entryIn, slotIn, tableIn, slice, headSize, blockIn, blocksIn}
+use Rattle.questions.specs.Ask.{Answer, refused, plain, orRefused, recordHead, recordsIn, entryIn, slotIn, tableIn, slice, headSize, blockIn, blocksIn}
 use Rattle.walks.specs.declared.Long.{Long}
 use Rattle.walks.specs.declared.Block.{Block}
+use Rattle.walks.specs.declared.LabelSet.{LabelSet}
 
 -- ---- records
 
@@ -110,3 +111,17 @@ sameName f p n a m = eqb n m && sameAt (slice f a m) f p
 -- the words for the value q in the first block from p on, in a part that ends at z, whose name is s
 unfoldable pub blockWords : Bool → ℕ → Order → List ℕ → List ℕ → ℤ → ℕ → ℕ → List ℕ → Answer
 blockWords t w o f s q z p lent = orRefused (blocksIn t w o f lent q s z (suc (length f)) p)
+
+-- ---- label sets
+
+-- a refusal, or 0 and a set without labels
+abbrev pub noSet : ℕ → LabelSet
+noSet c = record { code = c; found = false; at = 0; len = 0; msf = false }
+
+-- the words for the value q in a set: a refusal by its number, the plain text where there is no table, or what the table says
+abbrev pub setSays : List ℕ → LabelSet → ℤ → List ℕ → Answer
+setSays f s q lent = cond (eqb (s .code) 0) (cond (s .found) (tableWords (orderBy (s .msf)) f (s .at) (s .len) q lent) (plain lent)) (refused (s .code))
+
+-- s answers a for every value and every lent text
+abbrev pub IsSet : List ℕ → (ℤ → List ℕ → Answer) → LabelSet → Type 0
+IsSet f a s = (q : ℤ) (lent : List ℕ) → setSays f s q lent ≡ a q lent

@@ -4,8 +4,9 @@ ghost use Prim.Native.Nat.{ℕ, _+_, _*_, _<_, _≤_};
 ghost use lib.ListN.{length};
 ghost use Rattle.format.specs.Number.{orderBy};
 ghost use Rattle.questions.specs.Ask.{orRefused, slice};
+ghost use lib.IntN.{ℤ};
 ghost use Rattle.walks.specs.Answers.{noLong, Longs, noWords, Worded};
-ghost use Rattle.walks.specs.Walks.{IsSize, isOf, longAt, recordsFrom, entryWords, slotWords, tableWords, openSize, closeSize, noBlock, IsBlock, sameName, blockWords};
+ghost use Rattle.walks.specs.Walks.{IsSize, isOf, longAt, recordsFrom, entryWords, slotWords, tableWords, openSize, closeSize, noBlock, IsBlock, sameName, blockWords, noSet, setSays, IsSet};
 
 // A long string: the refusal number; where it is 0, kind, place and length of the contents.
 pub struct Long {
@@ -21,6 +22,15 @@ pub struct Words {
     pub found: bool,
     pub at: u64,
     pub len: u64,
+}
+
+// A label set: the refusal number; where it is 0, whether it has a table, and its place, length and byte order.
+pub struct LabelSet {
+    pub code: u8,
+    pub found: bool,
+    pub at: u64,
+    pub len: u64,
+    pub msf: bool,
 }
 
 // A label block: whether it lies whole in its part; then the lengths of its table and its name.
@@ -242,8 +252,21 @@ fn same_name(f: &[u8], p: u64, n: u64, a: usize, m: usize) -> bool
     text::same_at(f, p as usize, &f[a..a + m])
 }
 
-// The words for the value `q` in the first block from `start` on, in a part that ends at `end`, whose name is the text of `m` bytes at `a`.
-pub fn blocks(
+// A refusal; with 0, a set without labels.
+pub fn no_set(code: u8) -> LabelSet
+    ensures { λ r. ⌜ r ≡ noSet code ⌝ }
+{
+    LabelSet {
+        code,
+        found: false,
+        at: 0,
+        len: 0,
+        msf: false,
+    }
+}
+
+// The table of the first block from `start` on, in a part that ends at `end`, whose name is the text of `m` bytes at `a`.
+pub fn find_block(
     f: &[u8],
     start: u64,
     end: u64,
@@ -251,23 +274,41 @@ pub fn blocks(
     w: usize,
     a: usize,
     m: usize,
-    q: i32,
     msf: bool,
-) -> Words
+) -> LabelSet
     requires { ⌜ (a + m ≤ length (now f)) × (w ≤ 65535) ⌝ }
-    ensures { λ r. ⌜ Worded (blockWords tagged w (orderBy msf) (now (f .entry)) (slice (now (f .entry)) a m) q end start) r ⌝ }
+    ensures { λ r. ⌜ IsSet (now (f .entry)) (λ (q : ℤ). blockWords tagged w (orderBy msf) (now (f .entry)) (slice (now (f .entry)) a m) q end start) r ⌝ }
 {
     let mut p = start;
     while p < end {
         let b = block_at(f, p, end, tagged, w, msf);
         if !b.there {
-            return no_words(17);
+            return no_set(17);
         }
         let s = p + open_size(tagged);
         if same_name(f, s + 4, b.name, a, m) {
-            return table(f, s + (7 + w as u64), b.table, q, msf);
+            return LabelSet {
+                code: 0,
+                found: true,
+                at: s + (7 + w as u64),
+                len: b.table,
+                msf,
+            };
         }
         p = s + (7 + w as u64) + b.table + close_size(tagged);
     }
-    no_words(0)
+    no_set(0)
+}
+
+// The words for the value `q` in a label set.
+pub fn words_in(f: &[u8], s: LabelSet, q: i32) -> Words
+    ensures { λ r. ⌜ Worded (setSays (now (f .entry)) s q) r ⌝ }
+{
+    if s.code != 0 {
+        return no_words(s.code);
+    }
+    if !s.found {
+        return no_words(0);
+    }
+    table(f, s.at, s.len, q, s.msf)
 }

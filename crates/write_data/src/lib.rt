@@ -247,7 +247,7 @@ fn put_other(out: &mut [u8], f: &[u8], q: usize, e: u32, h: Forms) -> usize
     c * run_step(e % 16)
 }
 
-// The same, with single numbers first and without a loop: they are the most frequent.
+// The same, with one number or two first and without a loop: they are the most frequent.
 fn put_entry(out: &mut [u8], f: &[u8], q: usize, e: u32, h: Forms) -> usize
     requires { ⌜ (q + runSize (e % 16) (e / 16) ≤ length (now f)) × (runSize (e % 16) (e / 16) ≤ length (now out)) × Eights h ⌝ }
     ensures { λ r. ⌜ Entered h e (now (f .entry)) q (now (out .entry)) (now (out .exit)) r ⌝ }
@@ -280,6 +280,18 @@ fn put_entry(out: &mut [u8], f: &[u8], q: usize, e: u32, h: Forms) -> usize
         24 => {
             put_turned(out, f, q, 8);
             8
+        }
+        34 => {
+            put_numbers(out, f, q, 2, 2);
+            4
+        }
+        36 => {
+            put_numbers(out, f, q, 2, 4);
+            8
+        }
+        40 => {
+            put_numbers(out, f, q, 2, 8);
+            16
         }
         _ => put_other(out, f, q, e, h),
     }

@@ -29,9 +29,10 @@ loop-holds : tie.Need-loop-holds Inv-loop μ-loop
 loop-holds c =
     let a = c .before .before .before .before .args in
     let f = a .f .now in
-    let l = layoutBy (a .l) in
-    (run-start f l (λ (x : ℕ). askCell (a .i + x) (a .j)) (a .i) (a .l .k) (a .out .now) _ (c .before .how-many .ensures),
-    λ h. c .column-of .ensures ∙ ap (λ (x : ℕ). columnBy (answerOf f l (askColumn x))) (sym (add-zero (a .i))))
+    let l = layoutBy (a .l) in (
+      run-start f l (λ (x : ℕ). askCell (a .i + x) (a .j)) (a .i) (a .l .k) (a .out .now) _ (c .before .how-many .ensures),
+      λ h. c .column-of .ensures ∙ ap (λ (x : ℕ). columnBy (answerOf f l (askColumn x))) (sym (add-zero (a .i))),
+    )
 
 add-v : tie.Need-add-v Inv-loop μ-loop
 add-v c = let h = run-in (c .before .loop .inv .0) (c .loop-test .taken) in omega (arith, h)
@@ -82,9 +83,10 @@ loop-less c = omega arith
 
 loop-again : tie.Need-loop-again Inv-loop μ-loop
 loop-again c =
-    let a = c .before .before .before .before .before .before .before .before .before .before .before .before .before .args in
-    (stored (c .before .before),
-    λ h. c .column-after .ensures ∙ ap (λ (x : ℕ). columnBy (answerOf (a .f .now) (layoutBy (a .l)) (askColumn x))) (add-assoc (a .i) (c .before .before .before .before .before .before .before .before .loop .m) 1))
+    let a = c .before .before .before .before .before .before .before .before .before .before .before .before .before .args in (
+      stored (c .before .before),
+      λ h. c .column-after .ensures ∙ ap (λ (x : ℕ). columnBy (answerOf (a .f .now) (layoutBy (a .l)) (askColumn x))) (add-assoc (a .i) (c .before .before .before .before .before .before .before .before .loop .m) 1),
+    )
 
 loop-less-2 : tie.Need-loop-less-2 Inv-loop μ-loop
 loop-less-2 c = omega arith

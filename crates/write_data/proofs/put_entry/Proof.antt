@@ -57,6 +57,27 @@ put-turned-requires-3 c κs = let s = c .before .before .before .before in
     let e : runSize (a .e % 16) (a .e / 16) ≡ 8 = ap (λ (x : ℕ). runSize (x % 16) (x / 16)) (c .before .match .keys7) in
     (omega arith, omega arith, omega arith)
 
+put-numbers-requires : tie.Need-put-numbers-requires
+unfolding runStep
+put-numbers-requires c κs = let s = c .before .before .before .before in
+    let a = s .args in
+    let e : runSize (a .e % 16) (a .e / 16) ≡ 4 = ap (λ (x : ℕ). runSize (x % 16) (x / 16)) (c .before .match .keys8) in
+    (omega arith, omega arith, omega arith)
+
+put-numbers-requires-2 : tie.Need-put-numbers-requires-2
+unfolding runStep
+put-numbers-requires-2 c κs = let s = c .before .before .before .before in
+    let a = s .args in
+    let e : runSize (a .e % 16) (a .e / 16) ≡ 8 = ap (λ (x : ℕ). runSize (x % 16) (x / 16)) (c .before .match .keys9) in
+    (omega arith, omega arith, omega arith)
+
+put-numbers-requires-3 : tie.Need-put-numbers-requires-3
+unfolding runStep
+put-numbers-requires-3 c κs = let s = c .before .before .before .before in
+    let a = s .args in
+    let e : runSize (a .e % 16) (a .e / 16) ≡ 16 = ap (λ (x : ℕ). runSize (x % 16) (x / 16)) (c .before .match .keys10) in
+    (omega arith, omega arith, omega arith)
+
 put-other-requires : tie.Need-put-other-requires
 put-other-requires c κs = search needs
 
@@ -127,7 +148,34 @@ same-length-8 : tie.Need-same-length-8
 same-length-8 c = search needs
 
 returns-8 : tie.Need-returns-8
-returns-8 c = search needs
+unfolding runStep runBytes
+returns-8 c = let m = c .before .before .before .before in
+    let a = m .before .before .before .args in
+    entry-as (a .h) (a .e) 34 (a .f .now) (a .q) (a .out .now) _ 4 (m .match .keys8) (record { is = c .before .before .put-numbers .ensures; size = refl })
+
+same-length-9 : tie.Need-same-length-9
+same-length-9 c = search needs
+
+returns-9 : tie.Need-returns-9
+unfolding runStep runBytes
+returns-9 c = let m = c .before .before .before .before in
+    let a = m .before .before .before .args in
+    entry-as (a .h) (a .e) 36 (a .f .now) (a .q) (a .out .now) _ 8 (m .match .keys9) (record { is = c .before .before .put-numbers2 .ensures; size = refl })
+
+same-length-10 : tie.Need-same-length-10
+same-length-10 c = search needs
+
+returns-10 : tie.Need-returns-10
+unfolding runStep runBytes
+returns-10 c = let m = c .before .before .before .before in
+    let a = m .before .before .before .args in
+    entry-as (a .h) (a .e) 40 (a .f .now) (a .q) (a .out .now) _ 16 (m .match .keys10) (record { is = c .before .before .put-numbers3 .ensures; size = refl })
+
+same-length-11 : tie.Need-same-length-11
+same-length-11 c = search needs
+
+returns-11 : tie.Need-returns-11
+returns-11 c = search needs
 
 pub put-entry-spec : {M : Type 1} → statement M
 put-entry-spec =
@@ -140,6 +188,9 @@ put-entry-spec =
     put-turned-requires
     put-turned-requires-2
     put-turned-requires-3
+    put-numbers-requires
+    put-numbers-requires-2
+    put-numbers-requires-3
     put-other-requires
     same-length
     returns
@@ -156,4 +207,10 @@ put-entry-spec =
     same-length-7
     returns-7
     same-length-8
-    returns-8)
+    returns-8
+    same-length-9
+    returns-9
+    same-length-10
+    returns-10
+    same-length-11
+    returns-11)

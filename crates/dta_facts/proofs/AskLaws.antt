@@ -1,0 +1,72 @@
+-- Questions by number, and answers as numbers.
+use mathlib.Core.Path.{_≡_, refl, sym, ap, _∙_}
+use Prim.Native.Nat.{ℕ, _≤_, _<_}
+use mathlib.Core.List.{List, [], _∷_, _++_}
+use lib.ListN.{length, drop}
+use lib.IntN.{ℤ, pos, negsuc}
+use borrow.Author.Tests.{le-leb, lt-leb}
+use types.Run.{OneOf, miss}
+use denote.Enum.Declared.{tagOf}
+use Rattle.format.specs.Cells.{Says, whole, single, double, letter, between, outside, words, reference}
+use Rattle.cell.specs.Cells.{says}
+use Rattle.format.specs.Dta.{Layout}
+use Rattle.questions.specs.Ask.{Question, Answer, refused, cell, answerOf}
+use Rattle.asking.specs.Asking.{answerBy}
+use Rattle.asking.specs.declared.Answer as Told
+use Rattle.asking.proofs.Answer.{the-type}
+use Rattle.asking.specs.declared.Answer.the-variants as A
+use Rattle.coded.specs.Coded.{numbersOf}
+use Rattle.dta_facts.specs.Exports.{layoutIn, questionOf, askedBy, codeOf, answered}
+
+-- the question of the number q, where that is k
+pub question-case : (i j : ℕ) {q k : ℕ} → q ≡ k → questionOf k i j ≡ questionOf q i j
+question-case i j e = ap (λ (x : ℕ). questionOf x i j) (sym e)
+
+-- the answer to it
+pub asked-none : (f s : List ℕ) (q i j : ℕ) → 15 < q → refused 16 ≡ askedBy f s q i j
+unfolding askedBy
+asked-none f s q i j h = rw (lt-leb q 15 h)
+
+pub asked-some : (f s : List ℕ) (q i j : ℕ) (x : Answer) → q ≤ 15 → x ≡ answerOf f (layoutIn s) (questionOf q i j) → x ≡ askedBy f s q i j
+unfolding askedBy
+asked-some f s q i j x h e = rw (le-leb q 15 h) e
+
+pub asked-of : (f : List ℕ) {l m : Layout} {q r : Question} → l ≡ m → q ≡ r → answerOf f l q ≡ answerOf f m r
+asked-of f {l} {m} {q} {r} e h = ap (λ (x : Layout). answerOf f x q) e ∙ ap (λ (x : Question). answerOf f m x) h
+
+-- the number of a refusal
+pub code-case : {x k : Told.Answer} → x ≡ k → codeOf (answerBy [] k) ≡ codeOf (answerBy [] x)
+code-case e = ap (λ (y : Told.Answer). codeOf (answerBy [] y)) (sym e)
+
+whole-code : (z : ℤ) → 0 ≡ codeOf (cell (whole z))
+whole-code (pos n) = refl
+whole-code (negsuc n) = refl
+
+cell-code : (s : Says) → 0 ≡ codeOf (cell s)
+cell-code (whole z) = whole-code z
+cell-code (single x) = refl
+cell-code (double x) = refl
+cell-code (letter k) = refl
+cell-code between = refl
+cell-code outside = refl
+cell-code (words p n) = refl
+cell-code (reference v o) = refl
+
+-- any other answer has none
+pub no-code : (x : Told.Answer) → OneOf (1 ∷ 2 ∷ 3 ∷ 4 ∷ 5 ∷ 6 ∷ 7 ∷ []) (tagOf the-type x) → 0 ≡ codeOf (answerBy [] x)
+no-code (A.Refused c) h = absurd (miss (1 ∷ 2 ∷ 3 ∷ 4 ∷ 5 ∷ 6 ∷ 7 ∷ []) 0 tt h)
+no-code (A.Count n) h = refl
+no-code (A.YesNo b) h = refl
+no-code (A.Type k w) h = refl
+no-code (A.Part p n) h = refl
+no-code (A.Content c) h = cell-code (says c)
+no-code A.Plain h = refl
+no-code (A.LongString k p n) h = refl
+
+-- what is returned and what is stored, where a is the answer b, with room for it or not
+module _ (d : List ℕ) (a : Answer) {b : Answer} (t : a ≡ b) {c : ℕ} (e : c ≡ codeOf a) where
+  pub ask-room : {w n : List ℕ} → 4 ≤ length d → w ≡ n ++ drop 4 d → n ≡ numbersOf a → (c ≡ codeOf b) × (w ≡ answered b d)
+  ask-room h q m = (e ∙ ap codeOf t, rw (le-leb 4 (length d) h) (q ∙ ap (λ (x : List ℕ). x ++ drop 4 d) (m ∙ ap numbersOf t)))
+
+  pub ask-none : length d < 4 → (c ≡ codeOf b) × (d ≡ answered b d)
+  ask-none h = (e ∙ ap codeOf t, rw (lt-leb 4 (length d) h))

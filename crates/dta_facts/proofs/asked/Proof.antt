@@ -1,0 +1,30 @@
+use mathlib.Core.Path.{_∙_}
+use mathlib.Core.List.{[]}
+use Rattle.asking.specs.Asking.{answerBy}
+use Rattle.dta_facts.proofs.AskLaws.{asked-none, asked-some, asked-of}
+use borrow.Author.Needs.{needs}
+use Rattle.dta_facts.proofs.asked.Statement.{statement}
+use Rattle.dta_facts.proofs.asked.Tie as tie
+
+returns : tie.Need-returns
+returns c =
+    let a = c .before .before .before .args in
+    asked-none (a .file .now) (a .layout .now) (a .q) (a .i) (a .j) (c .if1 .taken)
+
+layout-in-requires : tie.Need-layout-in-requires
+layout-in-requires c κs = search needs
+
+question-of-requires : tie.Need-question-of-requires
+question-of-requires c κs = search needs
+
+ask-requires : tie.Need-ask-requires
+ask-requires c κs = search needs
+
+returns-2 : tie.Need-returns-2
+returns-2 c =
+    let a = c .before .before .before .before .before .before .args in
+    asked-some (a .file .now) (a .layout .now) (a .q) (a .i) (a .j) (answerBy [] (c .ask .result)) (c .before .before .before .if1 .left) (c .ask .ensures [] ∙ asked-of (a .file .now) (c .before .before .layout-in .ensures) (c .before .question-of .ensures))
+
+pub asked-spec : {M : Type 1} → statement M
+asked-spec =
+    tie.close (tie.spec returns layout-in-requires question-of-requires ask-requires returns-2)

@@ -1,0 +1,61 @@
+-- What the exported functions are given, and what they store.
+use Prim.Native.Nat.{ℕ}
+use mathlib.Core.List.{List, [], _∷_, _++_}
+use mathlib.Core.Bool.{cond, _&&_}
+use lib.ListN.{length, getD, take, drop}
+use lib.Dec.{eqb, leb}
+use Rattle.format.specs.Dta.{Layout, noLayout, verdict}
+use Rattle.questions.specs.Ask.{Question, Answer, refused, askEdition, askOrder, askK, askN, askLabel, askStamp, askType, askName, askFormat, askSet, askVarLabel, askDate, askSort, askCell, askLong, askWords, answerOf}
+use Rattle.coded.specs.Coded.{numbersOf}
+
+-- the layout of eighteen numbers, edition, byte order, K, N and the fourteen positions; all zeros where there are fewer
+abbrev pub layoutIn : List ℕ → Layout
+layoutIn s =
+    cond (leb 18 (length s))
+    (record { release = getD s 0 0; order = getD s 1 0; variables = getD s 2 0; rows = getD s 3 0; places = take 14 (drop 4 s) })
+    noLayout
+
+-- the question of a number from 0 to 15, about variable i and observation j
+abbrev pub questionOf : ℕ → ℕ → ℕ → Question
+questionOf q i j =
+    cond (eqb q 0) askEdition
+    (cond (eqb q 1) askOrder
+    (cond (eqb q 2) askK
+    (cond (eqb q 3) askN
+    (cond (eqb q 4) askLabel
+    (cond (eqb q 5) askStamp
+    (cond (eqb q 6) (askType i)
+    (cond (eqb q 7) (askName i)
+    (cond (eqb q 8) (askFormat i)
+    (cond (eqb q 9) (askSet i)
+    (cond (eqb q 10) (askVarLabel i)
+    (cond (eqb q 11) (askDate i)
+    (cond (eqb q 12) (askSort i)
+    (cond (eqb q 13) (askCell i j)
+    (cond (eqb q 14) (askLong i j)
+    (askWords i j [])))))))))))))))
+
+-- the answer to the question of a number; 16 where there is no such question. The text that is lent with label words is none: where nothing is found the
+-- answer is that the caller's plain text is shown
+unfoldable pub askedBy : List ℕ → List ℕ → ℕ → ℕ → ℕ → Answer
+askedBy f s q i j = cond (leb q 15) (answerOf f (layoutIn s) (questionOf q i j)) (refused 16)
+
+-- the refusal number of an answer, 0 where it is none
+abbrev pub codeOf : Answer → ℕ
+codeOf a = cond (eqb (getD (numbersOf a) 0 0) 0) (getD (numbersOf a) 1 0) 0
+
+-- what a slice of numbers that held d holds after an answer was stored, where it has room for one
+abbrev pub answered : Answer → List ℕ → List ℕ
+answered a d = cond (leb 4 (length d)) (numbersOf a ++ drop 4 d) d
+
+-- what a slice of numbers that held d holds after n was stored in its first place, where it has one
+abbrev pub stored : ℕ → List ℕ → List ℕ
+stored n d = cond (leb 1 (length d)) (n ∷ drop 1 d) d
+
+-- how many numbers t a list of them has for the file f: 0 with a refusal
+abbrev pub countOf : List ℕ → List ℕ → ℕ
+countOf f t = cond (eqb (verdict f) 0) (length t) 0
+
+-- what a slice that held d holds after the numbers t were stored for the file f, where it is accepted and there is room for all of them
+abbrev pub listed : List ℕ → List ℕ → List ℕ → List ℕ
+listed f t d = cond (eqb (verdict f) 0 && leb (length t) (length d)) (t ++ drop (length t) d) d

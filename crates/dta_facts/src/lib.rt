@@ -1,0 +1,182 @@
+// The questions, as programs in other languages ask them: numbers and slices alone. A layout is eighteen numbers: edition, byte order, K, N, and the
+// fourteen positions; where there are fewer, all are taken as zeros. An answer is four numbers (crates/coded/specs/Coded.antt).
+use asking::Answer;
+use asking::Question;
+use checking::Layout;
+ghost use mathlib.Core.Path.{_≡_};
+ghost use mathlib.Core.List.{[]};
+ghost use Prim.Native.Nat.{ℕ, _+_};
+ghost use Rattle.questions.specs.Ask.{askCell, askWords};
+ghost use Rattle.format.specs.Dta.{verdict};
+ghost use Rattle.checking.specs.Checks.{layoutBy};
+ghost use Rattle.asking.specs.Asking.{questionBy, answerBy};
+ghost use Rattle.coded.specs.Coded.{following, Tells};
+ghost use Rattle.long_list.specs.Longs.{longsOf};
+ghost use Rattle.set_list.specs.Sets.{setsOf};
+ghost use Rattle.dta_facts.specs.Exports.{layoutIn, questionOf, askedBy, codeOf, answered, stored, countOf, listed};
+
+// The layout of eighteen numbers; all zeros where there are fewer.
+fn layout_in(s: &[u64]) -> Layout
+    ensures { λ r. ⌜ layoutBy r ≡ layoutIn (now (s .entry)) ⌝ }
+{
+    let mut places = [0u64; 14];
+    if s.len() < 18 {
+        return Layout {
+            edition: 0,
+            order: 0,
+            k: 0,
+            n: 0,
+            places,
+        };
+    }
+    let mut i: usize = 0;
+    while i < 14 {
+        places[i] = s[4 + i];
+        i += 1;
+    }
+    Layout {
+        edition: s[0],
+        order: s[1],
+        k: s[2],
+        n: s[3],
+        places,
+    }
+}
+
+// The question of a number from 0 to 15.
+fn question_of(q: u64, i: u64, j: u64) -> Question
+    ensures { λ r. ⌜ questionBy [] r ≡ questionOf q i j ⌝ }
+{
+    match q {
+        0 => Question::Edition,
+        1 => Question::Order,
+        2 => Question::Variables,
+        3 => Question::Rows,
+        4 => Question::Label,
+        5 => Question::Stamp,
+        6 => Question::Type(i),
+        7 => Question::Name(i),
+        8 => Question::Format(i),
+        9 => Question::Set(i),
+        10 => Question::VarLabel(i),
+        11 => Question::Date(i),
+        12 => Question::Sort(i),
+        13 => Question::Content(i, j),
+        14 => Question::LongString(i, j),
+        _ => Question::LabelWords(i, j),
+    }
+}
+
+// The answer to the question of a number.
+fn asked(file: &[u8], layout: &[u64], q: u64, i: u64, j: u64) -> Answer
+    ensures { λ r. ⌜ answerBy [] r ≡ askedBy (now (file .entry)) (now (layout .entry)) q i j ⌝ }
+{
+    if 15 < q {
+        return Answer::Refused(16);
+    }
+    asking::ask(file, layout_in(layout), question_of(q, i, j))
+}
+
+// The refusal's number of an answer, 0 where it is none.
+fn code_of(x: Answer) -> u8
+    ensures { λ r. ⌜ r ≡ codeOf (answerBy [] x) ⌝ }
+{
+    match x {
+        Answer::Refused(c) => c,
+        _ => 0,
+    }
+}
+
+// The answer to the question of a number, about variable `i` and observation `j`: 0, or the refusal's number. The answer is stored as four numbers; an
+// `answer` with no room for them is left as it came.
+#[no_mangle]
+pub extern "C" fn dta_ask(
+    file: &[u8],
+    layout: &[u64],
+    question: u64,
+    i: u64,
+    j: u64,
+    answer: &mut [u64],
+) -> u8
+    ensures { λ r. ⌜ (r ≡ codeOf (askedBy (now (file .entry)) (now (layout .entry)) question i j)) × (now (answer .exit) ≡ answered (askedBy (now (file .entry)) (now (layout .entry)) question i j) (now (answer .entry))) ⌝ }
+{
+    let x = asked(file, layout, question, i, j);
+    let code = code_of(x);
+    if 4 <= answer.len() {
+        coded::put_four(answer, coded::numbers_of(x));
+    }
+    code
+}
+
+// The cells of variable `i` from observation `j` on, four numbers each, as many as `answers` has room for; gives how many.
+#[no_mangle]
+pub extern "C" fn dta_cells_down(
+    file: &[u8],
+    layout: &[u64],
+    i: u64,
+    j: u64,
+    answers: &mut [u64],
+) -> usize
+    ensures { λ r. ⌜ Tells (now (file .entry)) (layoutIn (now (layout .entry))) (λ (m : ℕ). askCell i (j + m)) (following j (layoutIn (now (layout .entry)) .rows)) (now (answers .entry)) (now (answers .exit)) r ⌝ }
+{
+    cell_runs::cells_down(file, layout_in(layout), i, j, &mut answers[..])
+}
+
+// The cells of observation `j` from variable `i` on.
+#[no_mangle]
+pub extern "C" fn dta_cells_along(
+    file: &[u8],
+    layout: &[u64],
+    i: u64,
+    j: u64,
+    answers: &mut [u64],
+) -> usize
+    ensures { λ r. ⌜ Tells (now (file .entry)) (layoutIn (now (layout .entry))) (λ (m : ℕ). askCell (i + m) j) (following i (layoutIn (now (layout .entry)) .variables)) (now (answers .entry)) (now (answers .exit)) r ⌝ }
+{
+    cell_runs::cells_along(file, layout_in(layout), i, j, &mut answers[..])
+}
+
+// The label words of the cells of variable `i` from observation `j` on.
+#[no_mangle]
+pub extern "C" fn dta_words_down(
+    file: &[u8],
+    layout: &[u64],
+    i: u64,
+    j: u64,
+    answers: &mut [u64],
+) -> usize
+    ensures { λ r. ⌜ Tells (now (file .entry)) (layoutIn (now (layout .entry))) (λ (m : ℕ). askWords i (j + m) []) (following j (layoutIn (now (layout .entry)) .rows)) (now (answers .entry)) (now (answers .exit)) r ⌝ }
+{
+    word_runs::words_down(file, layout_in(layout), i, j, &mut answers[..])
+}
+
+// Stores a number in the first place of `out`, where it has one.
+fn put_first(out: &mut [u64], n: u64)
+    ensures { λ _. ⌜ now (out .exit) ≡ stored n (now (out .entry)) ⌝ }
+{
+    if 1 <= out.len() {
+        out[0] = n;
+    }
+}
+
+// The verdict on a file; and the long strings of an accepted one, five numbers each: v, o, kind, place and length of the contents. The count of these
+// numbers is stored in the first place of `count`, where it has one, 0 with a refusal; a `list` with no room for all of them is left as it came.
+#[no_mangle]
+pub extern "C" fn dta_long_list(file: &[u8], list: &mut [u64], count: &mut [u64]) -> u8
+    ensures { λ r. ⌜ (r ≡ verdict (now (file .entry))) × (now (list .exit) ≡ listed (now (file .entry)) (longsOf (now (file .entry))) (now (list .entry))) × (now (count .exit) ≡ stored (countOf (now (file .entry)) (longsOf (now (file .entry)))) (now (count .entry))) ⌝ }
+{
+    let longs = long_list::long_list(file, &mut list[..]);
+    put_first(&mut count[..], longs.count);
+    longs.code
+}
+
+// The verdict on a file; and the label sets of an accepted one: for each, place and length of its name and how many entries it has, and then for each
+// entry its value, as 32 bits, and place and length of its text. Otherwise as `dta_long_list`.
+#[no_mangle]
+pub extern "C" fn dta_set_list(file: &[u8], list: &mut [u64], count: &mut [u64]) -> u8
+    ensures { λ r. ⌜ (r ≡ verdict (now (file .entry))) × (now (list .exit) ≡ listed (now (file .entry)) (setsOf (now (file .entry))) (now (list .entry))) × (now (count .exit) ≡ stored (countOf (now (file .entry)) (setsOf (now (file .entry)))) (now (count .entry))) ⌝ }
+{
+    let sets = set_list::set_list(file, &mut list[..]);
+    put_first(&mut count[..], sets.count);
+    sets.code
+}

@@ -1,0 +1,29 @@
+use mathlib.Core.Path.{ap, _∙_}
+use Prim.Native.Nat.{ℕ}
+use mathlib.Core.List.{List, [], _++_}
+use lib.ListN.{drop}
+use Rattle.coded.specs.Coded.{numbersOf}
+use borrow.Author.Needs.{needs}
+use Rattle.word_runs.proofs.put_words.Statement.{statement}
+use Rattle.word_runs.proofs.put_words.Tie as tie
+
+by-words-requires : tie.Need-by-words-requires
+by-words-requires c κs = search needs
+
+numbers-of-requires : tie.Need-numbers-of-requires
+numbers-of-requires c κs = search needs
+
+put-four-requires : tie.Need-put-four-requires
+put-four-requires c κs = search needs
+
+same-length : tie.Need-same-length
+same-length c = search needs
+
+returns : tie.Need-returns
+returns c =
+    let y = c .before .before .before .numbers-of .ensures [] ∙ ap numbersOf (c .before .before .before .before .by-words .ensures []) in
+    c .before .before .put-four .ensures ∙ ap (λ (x : List ℕ). x ++ drop 4 (c .before .before .before .before .before .before .before .args .out .now)) y
+
+pub put-words-spec : {M : Type 1} → statement M
+put-words-spec =
+    tie.close (tie.spec by-words-requires numbers-of-requires put-four-requires same-length returns)
