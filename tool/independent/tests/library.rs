@@ -1,0 +1,570 @@
+//! The proved library as Rust programs call it, and the independent answers: each exported function on any file and any layout, with what it leaves of the lent
+//! memory; and the safe crate over them.
+//!
+//! DTA_LIBRARY is how many generated files are asked, DTA_SEED is where the seeds start.
+
+use dta::raw;
+use independent::damage::Source;
+use independent::dataset::{dataset, Cell as Stored, Dataset};
+use independent::questions::{ask, numbers, Answer, Cell, Kind, Numbers, Question, Span};
+use independent::random::Random;
+use independent::{check, generate, stated, wrong};
+
+const GENERATED: u64 = 600;
+/// Cells that are asked with one layout.
+const CELLS: u64 = 4;
+/// What stands in lent memory before a call.
+const BEFORE: u64 = 0x5a5a_5a5a_5a5a_5a5a;
+
+fn setting(name: &str, usual: u64) -> u64 {
+    std::env::var(name).map_or(usual, |text| text.parse().expect(name))
+}
+
+/// The files of tests/, and generated ones, some of them damaged.
+fn files() -> Vec<Vec<u8>> {
+    let mut files: Vec<Vec<u8>> = stated::all()
+        .into_iter()
+        .map(|stated| stated.file)
+        .collect();
+    let seed = setting("DTA_SEED", 900_000);
+    for seed in seed..seed + setting("DTA_LIBRARY", GENERATED) {
+        let mut random = Random::new(seed);
+        let file = generate::file(&mut random);
+        if random.once_in(4) {
+            let layout = check(&file).expect("a generated file");
+            files.push(Source::new(file.clone(), &layout).damaged(&mut random));
+        }
+        files.push(file);
+    }
+    files
+}
+
+/// The four numbers of an answer, as the header for C programs has them.
+fn coded(answer: Answer) -> [u64; 4] {
+    let part = |kind, span: Span| [kind, span.place, span.length, 0];
+    match answer {
+        Answer::Refused(number) => [0, u64::from(number), 0, 0],
+        Answer::Number(number) => [1, number, 0, 0],
+        Answer::Date(yes) => [2, u64::from(yes), 0, 0],
+        Answer::Type(of) => {
+            let code = match of.kind {
+                Kind::Text => of.width,
+                Kind::Strl => 32768,
+                Kind::Double => 65526,
+                Kind::Float => 65527,
+                Kind::Long => 65528,
+                Kind::Int => 65529,
+                Kind::Byte => 65530,
+            };
+            [3, code, 0, 0]
+        }
+        Answer::Text(span) | Answer::Words(Some(span)) => part(4, span),
+        Answer::Words(None) => [5, 0, 0, 0],
+        Answer::Cell(cell) => match cell {
+            Cell::Whole(number) => [
+                6,
+                u64::from(number.unsigned_abs()),
+                u64::from(number < 0),
+                0,
+            ],
+            Cell::Float(bits) => [7, u64::from(bits), 0, 0],
+            Cell::Double(bits) => [8, bits, 0, 0],
+            Cell::Letter(letter) => [9, u64::from(letter), 0, 0],
+            Cell::Between => [10, 0, 0, 0],
+            Cell::Outside => [11, 0, 0, 0],
+            Cell::Text(span) => part(12, span),
+            Cell::Reference { v, o } => [13, u64::from(v), u64::from(o), 0],
+        },
+        Answer::Long { kind, contents } => [14, u64::from(kind), contents.place, contents.length],
+        Answer::Column { .. } => unreachable!("it is not asked"),
+    }
+}
+
+/// The questions about a variable and an observation, by their numbers.
+fn questions(i: u64, j: u64) -> [Question; 16] {
+    [
+        Question::Edition,
+        Question::Order,
+        Question::K,
+        Question::N,
+        Question::Label,
+        Question::Stamp,
+        Question::Type(i),
+        Question::Name(i),
+        Question::Format(i),
+        Question::Set(i),
+        Question::VarLabel(i),
+        Question::Date(i),
+        Question::Sort(i),
+        Question::Cell(i, j),
+        Question::Long(i, j),
+        Question::Words(i, j),
+    ]
+}
+
+type Ask = fn(&[u8], &[u64], u64, u64, u64, &mut [u64]) -> u8;
+type Run = fn(&[u8], &[u64], u64, u64, &mut [u64]) -> usize;
+
+/// The functions that are compared: the library's, or wrong ones.
+#[derive(Clone, Copy)]
+struct Functions {
+    ask: Ask,
+    down: Run,
+    along: Run,
+    words: Run,
+}
+
+const PROVED: Functions = Functions {
+    ask: raw::ask,
+    down: raw::cells_down,
+    along: raw::cells_along,
+    words: raw::words_down,
+};
+
+/// What is different in the answers over a file and a layout; how many answers were compared is added to `count`.
+fn difference(
+    of: &Functions,
+    file: &[u8],
+    layout: &Numbers,
+    cells: &[(u64, u64)],
+    count: &mut u64,
+) -> Option<String> {
+    for &(i, j) in cells {
+        for (number, question) in questions(i, j).into_iter().enumerate() {
+            let due = coded(ask(file, layout, question));
+            for room in [0, 3, 4, 6] {
+                let mut lent = vec![BEFORE; room];
+                let code = (of.ask)(file, layout, number as u64, i, j, &mut lent);
+                let mut left = vec![BEFORE; room];
+                if room >= 4 {
+                    left[..4].copy_from_slice(&due);
+                }
+                let number = if due[0] == 0 { due[1] } else { 0 };
+                if u64::from(code) != number || lent != left {
+                    return Some(format!(
+                        "{question:?} in {room}: {code} {lent:x?}, due {number} {left:x?}"
+                    ));
+                }
+            }
+            *count += 1;
+        }
+        let (k, n) = (layout[2], layout[3]);
+        let runs: [(&str, Run, u64, u64, &dyn Fn(u64) -> Question); 3] = [
+            ("down", of.down, j, n, &|m| Question::Cell(i, j + m)),
+            ("along", of.along, i, k, &|m| Question::Cell(i + m, j)),
+            ("words", of.words, j, n, &|m| Question::Words(i, j + m)),
+        ];
+        for (name, run, first, last, question) in runs {
+            let there = if (1..=last).contains(&first) {
+                last - first + 1
+            } else {
+                0
+            };
+            for room in [0, 3, 4, 9, 41] {
+                let mut lent = vec![BEFORE; room];
+                let given = run(file, layout, i, j, &mut lent);
+                let many = there.min(room as u64 / 4);
+                let mut left: Vec<u64> = (0..many)
+                    .flat_map(|m| coded(ask(file, layout, question(m))))
+                    .collect();
+                left.resize(room, BEFORE);
+                if given as u64 != many || lent != left {
+                    return Some(format!(
+                        "{name} {i} {j} in {room}: {given} {lent:x?}, due {many} {left:x?}"
+                    ));
+                }
+                *count += many;
+            }
+        }
+    }
+    None
+}
+
+/// Cells of a layout: those at the edges, and some that are not there.
+fn some_cells(random: &mut Random, layout: &Numbers) -> Vec<(u64, u64)> {
+    let (k, n) = (layout[2], layout[3]);
+    let mut cells = vec![(1, 1), (k, n), (0, 1), (1, 0)];
+    let over =
+        |random: &mut Random, most: u64| 1 + random.below(most.min(1 << 40) as usize + 1) as u64;
+    for _ in 0..CELLS {
+        cells.push((over(random, k), over(random, n)));
+    }
+    cells.push((k.wrapping_add(1), u64::MAX));
+    cells
+}
+
+/// The first difference over all files, by their own layouts and by wrong ones; else how many answers were compared.
+fn first_difference(of: &Functions, files: &[Vec<u8>]) -> Result<u64, String> {
+    let mut random = Random::new(setting("DTA_SEED", 4_000));
+    let mut count = 0;
+    let mut other = [0; 18];
+    for file in files {
+        let own = check(file).map(|layout| numbers(&layout));
+        let mut layouts = Vec::new();
+        match own {
+            Ok(own) => {
+                layouts.push(own);
+                layouts.push(wrong::layout(&mut random, &own, &other, file.len()));
+                let mut ends = own;
+                wrong::other_ends(&mut random, &mut ends, file.len());
+                layouts.push(ends);
+                other = own;
+            }
+            Err(_) => layouts.push(other),
+        }
+        for layout in layouts {
+            let cells = some_cells(&mut random, &layout);
+            if let Some(difference) = difference(of, file, &layout, &cells, &mut count) {
+                return Err(format!(
+                    "a file of {} bytes by {layout:?}: {difference}",
+                    file.len()
+                ));
+            }
+        }
+    }
+    Ok(count)
+}
+
+#[test]
+fn exported_questions_answer_alike() {
+    let count =
+        first_difference(&PROVED, &files()).unwrap_or_else(|difference| panic!("{difference}"));
+    assert!(count > 300_000, "{count} answers");
+}
+
+#[test]
+fn wrong_functions_are_found() {
+    fn late(file: &[u8], layout: &[u64], i: u64, j: u64, lent: &mut [u64]) -> usize {
+        raw::cells_down(file, layout, i, j.saturating_add(1), lent)
+    }
+    fn short(file: &[u8], layout: &[u64], i: u64, j: u64, lent: &mut [u64]) -> usize {
+        let room = lent.len().saturating_sub(4);
+        raw::cells_along(file, layout, i, j, &mut lent[..room])
+    }
+    fn plain(file: &[u8], layout: &[u64], i: u64, j: u64, lent: &mut [u64]) -> usize {
+        let count = raw::words_down(file, layout, i, j, lent);
+        for words in lent.chunks_exact_mut(4).take(count) {
+            if words[0] == 4 && words[2] > 3 {
+                words[2] -= 1;
+            }
+        }
+        count
+    }
+    fn seventeen(file: &[u8], layout: &[u64], number: u64, i: u64, j: u64, lent: &mut [u64]) -> u8 {
+        match raw::ask(file, layout, number, i, j, lent) {
+            16 => 17,
+            code => code,
+        }
+    }
+    fn stray(file: &[u8], layout: &[u64], number: u64, i: u64, j: u64, lent: &mut [u64]) -> u8 {
+        let code = raw::ask(file, layout, number, i, j, lent);
+        if let Some(past) = lent.get_mut(4) {
+            *past = 0;
+        }
+        code
+    }
+    let files = files();
+    for (name, of) in [
+        (
+            "late",
+            Functions {
+                down: late,
+                ..PROVED
+            },
+        ),
+        (
+            "short",
+            Functions {
+                along: short,
+                ..PROVED
+            },
+        ),
+        (
+            "plain",
+            Functions {
+                words: plain,
+                ..PROVED
+            },
+        ),
+        (
+            "seventeen",
+            Functions {
+                ask: seventeen,
+                ..PROVED
+            },
+        ),
+        (
+            "stray",
+            Functions {
+                ask: stray,
+                ..PROVED
+            },
+        ),
+    ] {
+        assert!(first_difference(&of, &files).is_err(), "{name}");
+    }
+}
+
+#[test]
+fn layouts_and_questions_that_are_none() {
+    let file = stated::case("117-msf-typical");
+    let own = numbers(&check(&file).unwrap());
+    for count in 0..18 {
+        let mut lent = [BEFORE; 4];
+        assert_eq!(raw::ask(&file, &own[..count], 2, 0, 0, &mut lent), 17);
+        assert_eq!(raw::ask(&file, &own[..count], 13, 1, 1, &mut lent), 16);
+        assert_eq!(lent, [0, 16, 0, 0]);
+        assert_eq!(raw::cells_down(&file, &own[..count], 1, 1, &mut lent), 0);
+    }
+    let longer: Vec<u64> = own.iter().copied().chain([7, 7]).collect();
+    let mut lent = [BEFORE; 4];
+    assert_eq!(raw::ask(&file, &longer, 2, 0, 0, &mut lent), 0);
+    assert_eq!(lent, [1, own[2], 0, 0]);
+    for number in [16, 17, 255, u64::MAX] {
+        assert_eq!(raw::ask(&file, &own, number, 1, 1, &mut lent), 16);
+        assert_eq!(lent, [0, 16, 0, 0]);
+    }
+}
+
+// Lists.
+
+/// The numbers of a file's long strings, and of its label sets.
+fn lists(file: &[u8], dataset: &Dataset, positions: &[u64], tagged: bool) -> [Vec<u64>; 2] {
+    let tag = |size: u64| if tagged { size } else { 0 };
+    let mut longs = Vec::new();
+    let mut at = positions[10] + tag(7);
+    for record in &dataset.records {
+        let length = record.contents.len() as u64;
+        longs.extend([record.v, record.o, u64::from(record.kind), at + 16, length]);
+        at += 16 + length;
+    }
+    let mut sets = Vec::new();
+    let mut at = positions[11] + tag(14);
+    for block in &dataset.blocks {
+        at += tag(5);
+        let n = block.entries.len() as u64;
+        sets.extend([at + 4, block.name.len() as u64, n]);
+        let text = at + 48 + 8 * n;
+        for entry in &block.entries {
+            sets.extend([entry.value, text + entry.offset, entry.text.len() as u64]);
+            assert_eq!(
+                file[(text + entry.offset) as usize..][..entry.text.len()],
+                entry.text
+            );
+        }
+        at = text + block.text_length + tag(6);
+    }
+    [longs, sets]
+}
+
+#[test]
+fn lists_are_those_of_the_dataset() {
+    type List = fn(&[u8], &mut [u64], &mut [u64]) -> u8;
+    let (mut long_strings, mut entries) = (0, 0);
+    for file in files() {
+        let verdict = check(&file);
+        let due = match &verdict {
+            Ok(layout) => lists(
+                &file,
+                &dataset(&file, layout),
+                &layout.positions,
+                layout.edition == 117,
+            ),
+            Err(_) => [Vec::new(), Vec::new()],
+        };
+        let number = verdict.err().unwrap_or(0);
+        long_strings += due[0].len();
+        entries += due[1].len();
+        for (list, due) in [raw::long_list as List, raw::set_list].into_iter().zip(due) {
+            for room in [0, due.len().saturating_sub(1), due.len(), due.len() + 3] {
+                for places in [0, 1, 2] {
+                    let mut lent = vec![BEFORE; room];
+                    let mut count = vec![BEFORE; places];
+                    assert_eq!(list(&file, &mut lent, &mut count), number);
+                    let mut left = vec![BEFORE; room];
+                    if due.len() <= room {
+                        left[..due.len()].copy_from_slice(&due);
+                    }
+                    assert_eq!(lent, left);
+                    let mut counted = vec![BEFORE; places];
+                    if places > 0 {
+                        counted[0] = due.len() as u64;
+                    }
+                    assert_eq!(count, counted);
+                }
+            }
+        }
+    }
+    assert!(
+        long_strings > 1_000 && entries > 2_000,
+        "{long_strings} and {entries} numbers"
+    );
+}
+
+// The safe crate.
+
+/// What a cell of the safe crate says, in the independent words.
+fn said(cell: dta::Cell, file: &[u8]) -> Cell {
+    match cell {
+        dta::Cell::Whole(number) => Cell::Whole(number),
+        dta::Cell::Float(number) => Cell::Float(number.to_bits()),
+        dta::Cell::Double(number) => Cell::Double(number.to_bits()),
+        dta::Cell::Letter(letter) => Cell::Letter(letter),
+        dta::Cell::Between => Cell::Between,
+        dta::Cell::Outside => Cell::Outside,
+        dta::Cell::Text(text) => Cell::Text(Span {
+            place: text.as_ptr() as u64 - file.as_ptr() as u64,
+            length: text.len() as u64,
+        }),
+        dta::Cell::Reference { v, o } => Cell::Reference {
+            v: v as u32,
+            o: o as u32,
+        },
+    }
+}
+
+#[test]
+fn the_safe_crate_says_what_the_dataset_is() {
+    let mut accepted = 0;
+    for file in files() {
+        let layout = match (check(&file), dta::open(&file)) {
+            (Ok(layout), Ok(_)) => layout,
+            (Err(number), Err(refusal)) => {
+                assert_eq!(number, refusal.number());
+                continue;
+            }
+            (due, given) => panic!("{due:?}, {}", given.is_ok()),
+        };
+        accepted += 1;
+        let opened = dta::open(&file[..]).unwrap();
+        let due = dataset(&file, &layout);
+        let own = numbers(&layout);
+        assert_eq!(opened.layout().0, own);
+        assert_eq!(
+            (opened.label(), opened.stamp()),
+            (&due.label[..], &due.stamp[..])
+        );
+        assert_eq!(opened.sort_order(), due.sorted);
+        let variables: Vec<dta::Variable> = opened.variables().collect();
+        assert_eq!(variables.len(), due.variables.len());
+        for (variable, due) in variables.iter().zip(&due.variables) {
+            assert_eq!(variable.name, due.name);
+            assert_eq!(
+                (variable.format, variable.set, variable.label),
+                (&due.format[..], &due.set[..], &due.label[..])
+            );
+            assert_eq!(variable.is_date, due.format.starts_with(b"%t"));
+        }
+        cells_are_those(&file, &opened, &own, &due);
+        let sets: Vec<(Vec<u8>, Vec<(u64, Vec<u8>)>)> = opened
+            .label_sets()
+            .map(|set| {
+                (
+                    set.name.to_vec(),
+                    set.entries
+                        .map(|(value, text)| (u64::from(value as u32), text.to_vec()))
+                        .collect(),
+                )
+            })
+            .collect();
+        let blocks = due.blocks.iter().map(|block| {
+            let entries = block
+                .entries
+                .iter()
+                .map(|entry| (entry.value, entry.text.clone()));
+            (block.name.clone(), entries.collect())
+        });
+        assert_eq!(sets, blocks.collect::<Vec<_>>());
+        let (k, n) = (own[2], own[3]);
+        assert_eq!(opened.variable(k + 1).unwrap_err().number(), 16);
+        assert_eq!(opened.cell(1, n + 1).unwrap_err().number(), 16);
+        assert_eq!(
+            opened.column(0).err().map(|refusal| refusal.number()),
+            Some(16)
+        );
+    }
+    assert!(accepted > 500, "{accepted} accepted files");
+}
+
+/// By rows, by columns and one by one; with words and long strings.
+fn cells_are_those(file: &[u8], opened: &dta::File<&[u8]>, own: &Numbers, due: &Dataset) {
+    let (k, n) = (own[2], own[3]);
+    let longs = opened.long_strings();
+    assert_eq!(longs.len(), due.records.len());
+    let rows: Vec<Vec<dta::Cell>> = opened.rows().collect();
+    assert_eq!(rows.len() as u64, n);
+    for i in 1..=k {
+        let column: Vec<dta::Cell> = opened.column(i).unwrap().collect();
+        let words: Vec<dta::Words> = opened.column_words_from(i, 1).unwrap().collect();
+        assert_eq!((column.len(), words.len()), (n as usize, n as usize));
+        for j in 1..=n {
+            let at = (j - 1) as usize;
+            let cell = column[at];
+            assert_eq!(
+                Answer::Cell(said(cell, file)),
+                ask(file, own, Question::Cell(i, j))
+            );
+            assert_eq!(rows[at][i as usize - 1], cell);
+            assert_eq!(opened.cell(i, j).unwrap(), cell);
+            let plain: &[u8] = b"plain";
+            let shown = match ask(file, own, Question::Words(i, j)) {
+                Answer::Words(Some(span)) => &file[span.place as usize..][..span.length as usize],
+                Answer::Words(None) => plain,
+                other => panic!("{other:?}"),
+            };
+            assert_eq!(words[at].or(plain), shown);
+            assert_eq!(opened.words(i, j, plain).unwrap(), shown);
+            let stored = &due.cells[(at as u64 * k + i - 1) as usize];
+            if let (Stored::Reference { .. }, dta::Cell::Reference { v, o }) = (stored, cell) {
+                let record = due
+                    .records
+                    .iter()
+                    .find(|record| (record.v, record.o) == (v, o));
+                let long = longs.get(v, o);
+                assert_eq!(
+                    long.map(|long| (long.kind, long.contents.to_vec())),
+                    record.map(|record| (record.kind, record.contents.clone()))
+                );
+                let (kind, contents) = opened.long_string(i, j).unwrap();
+                assert_eq!(
+                    long.map_or((0, &[][..]), |long| (long.kind, long.contents)),
+                    (kind, contents)
+                );
+            }
+        }
+    }
+}
+
+#[test]
+fn the_safe_crate_rewrites() {
+    use independent::writer::{rewritten, TARGETS};
+    let mut done = 0;
+    for file in files() {
+        let Ok(opened) = dta::open(&file) else {
+            continue;
+        };
+        for target in TARGETS {
+            let (edition, order) = target.numbers();
+            let order_of = match order {
+                1 => dta::ByteOrder::Msf,
+                _ => dta::ByteOrder::Lsf,
+            };
+            let given = opened
+                .rewritten(edition, order_of)
+                .map_err(|refusal| refusal.number());
+            assert!(
+                given == rewritten(&file, edition, order, u64::MAX),
+                "{edition} {order}"
+            );
+            done += u64::from(given.is_ok());
+        }
+        assert_eq!(
+            opened
+                .rewritten(118, dta::ByteOrder::Msf)
+                .unwrap_err()
+                .number(),
+            15
+        );
+    }
+    assert!(done > 1_500, "{done} rewrites");
+}

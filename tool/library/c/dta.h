@@ -1,0 +1,91 @@
+/* Stata .dta files of editions 113, 114 and 117, by a proved library. Link libdta.a and libdta_facts.a.
+ *
+ * A slice passes as a pointer and then a length; slices of one call don't overlap, and a pointer is not null, also where the length is 0. Nothing is kept after a
+ * call, nothing is allocated, and any bytes may be handed in. The stack needs 512 KiB. Refusals are numbers of the table in document 01.
+ */
+#ifndef DTA_H
+#define DTA_H
+
+#include <stddef.h>
+#include <stdint.h>
+
+#ifdef __cplusplus
+extern "C" {
+#endif
+
+/* A layout: edition, byte order (1 MSF, 2 LSF), K, N, fourteen positions. */
+#define DTA_LAYOUT 18
+
+/* An answer: what it is (DTA_REFUSED, ..), and its values. */
+#define DTA_ANSWER 4
+
+/* A long string in a list: v, o, kind, place, length. */
+#define DTA_LONG_STRING 5
+
+/* The verdict on a file, 0 (accepted) to 13. Its layout is stored where there is room for eighteen numbers, all zeros with a refusal. */
+uint8_t dta_check(const uint8_t *file, size_t file_len, uint64_t *layout, size_t layout_len);
+
+/* Writes the file's dataset in an edition (113, 114, 117) and a byte order (1 MSF, 2 LSF) at the start of `out`: 0, or the refusal's number, with which `out` is as
+ * it came. The result's length is stored in the first place of `len`, where it has one; 0 with a refusal. */
+uint8_t dta_rewrite(const uint8_t *file, size_t file_len, uint64_t edition, uint64_t order, uint8_t *out, size_t out_len, uint64_t *len, size_t len_len);
+
+/* Questions. Those of a variable take i, those of a cell i and j, counted from 1. */
+enum dta_question {
+    DTA_EDITION,
+    DTA_BYTE_ORDER,
+    DTA_VARIABLES,
+    DTA_OBSERVATIONS,
+    DTA_LABEL,
+    DTA_STAMP,
+    DTA_TYPE_OF,
+    DTA_NAME,
+    DTA_FORMAT,
+    DTA_LABEL_SET,
+    DTA_VARIABLE_LABEL,
+    DTA_IS_DATE,
+    DTA_SORT_PLACE,
+    DTA_CELL,
+    DTA_LONG_STRING_OF,
+    DTA_WORDS
+};
+
+/* What an answer is, and what its values are. A place and a length are of bytes in the file. */
+enum dta_answer {
+    DTA_REFUSED,   /* the refusal's number */
+    DTA_COUNT,     /* a number */
+    DTA_YES_NO,    /* 1 or 0 */
+    DTA_TYPE,      /* the type's code in edition 117 */
+    DTA_PART,      /* place, length: a text of the file, or a label found */
+    DTA_PLAIN,     /* no label is found: the caller's plain text is shown */
+    DTA_WHOLE,     /* the number's size; 1 where it is negative */
+    DTA_FLOAT,     /* the bits of a float that is a number */
+    DTA_DOUBLE,    /* the bits of a double that is a number */
+    DTA_LETTER,    /* a missing letter: 0 for `.`, 1 to 26 for `.a` to `.z` */
+    DTA_BETWEEN,   /* between two letters, or after the last */
+    DTA_OUTSIDE,   /* a pattern that is no value of its type */
+    DTA_TEXT,      /* place, length: a cell's text */
+    DTA_REFERENCE, /* v, o: a long string; (0, 0) is the empty text */
+    DTA_LONG       /* kind, place, length: a long string; all 0 where none is meant */
+};
+
+/* The answer to a question by a layout, right or wrong: 0, or the refusal's number (16, 17). It is stored where there is room for four numbers. A layout of fewer than
+ * eighteen numbers is taken as zeros; a question that is not one of the above is refused with 16. */
+uint8_t dta_ask(const uint8_t *file, size_t file_len, const uint64_t *layout, size_t layout_len, uint64_t question, uint64_t i, uint64_t j, uint64_t *answer, size_t answer_len);
+
+/* Many cells: those of variable i from observation j on, those of observation j from variable i on, and the label words of those of variable i from observation j
+ * on. Each is stored as the answer to the question about it, four numbers, as many as there is room for; gives how many. */
+size_t dta_cells_down(const uint8_t *file, size_t file_len, const uint64_t *layout, size_t layout_len, uint64_t i, uint64_t j, uint64_t *answers, size_t answers_len);
+size_t dta_cells_along(const uint8_t *file, size_t file_len, const uint64_t *layout, size_t layout_len, uint64_t i, uint64_t j, uint64_t *answers, size_t answers_len);
+size_t dta_words_down(const uint8_t *file, size_t file_len, const uint64_t *layout, size_t layout_len, uint64_t i, uint64_t j, uint64_t *answers, size_t answers_len);
+
+/* The verdict on a file, and of an accepted one the long strings, five numbers each; or the label sets: for each, place and length of its name and its number of entries,
+ * and then for each entry its value, as 32 bits, and place and length of its text. How many numbers that is is stored in the first place of `count`, where it has
+ * one, 0 with a refusal; a list with no room for all of them is left as it came. */
+uint8_t dta_long_list(const uint8_t *file, size_t file_len, uint64_t *list, size_t list_len, uint64_t *count, size_t count_len);
+uint8_t dta_set_list(const uint8_t *file, size_t file_len, uint64_t *list, size_t list_len, uint64_t *count, size_t count_len);
+
+#ifdef __cplusplus
+}
+#endif
+
+#endif

@@ -1,0 +1,147 @@
+//! Cells one after another. The proved library answers some thousand at once.
+
+use crate::answer::Numbers;
+use crate::file::Layout;
+use crate::{raw, Cell, Words};
+
+/// The answers that are asked for at once, unless told otherwise.
+const ANSWERS: usize = 1024;
+
+/// A function of `raw` that answers down a column.
+type Ask = fn(&[u8], &[u64], u64, u64, &mut [u64]) -> usize;
+
+/// Answers down a column.
+struct Down<'a> {
+    file: &'a [u8],
+    layout: Layout,
+    ask: Ask,
+    i: u64,
+    /// The observation that is asked for next.
+    j: u64,
+    at_once: usize,
+    answers: Vec<u64>,
+    next: usize,
+    count: usize,
+}
+
+impl<'a> Down<'a> {
+    fn new(file: &'a [u8], layout: &Layout, ask: Ask, i: u64, j: u64) -> Down<'a> {
+        Down {
+            file,
+            layout: *layout,
+            ask,
+            i,
+            j,
+            at_once: ANSWERS,
+            answers: Vec::new(),
+            next: 0,
+            count: 0,
+        }
+    }
+
+    #[inline]
+    fn numbers(&mut self) -> Option<Numbers> {
+        if self.next == self.count {
+            self.answers.resize(self.at_once * raw::ANSWER, 0);
+            let answers = &mut self.answers[..];
+            self.next = 0;
+            self.count = (self.ask)(self.file, &self.layout.0, self.i, self.j, answers);
+            self.j = self.j.saturating_add(self.count as u64);
+            if self.count == 0 {
+                return None;
+            }
+        }
+        let start = self.next * raw::ANSWER;
+        self.next += 1;
+        self.answers[start..start + raw::ANSWER].try_into().ok()
+    }
+}
+
+/// The cells of a variable, one for each observation.
+pub struct Column<'a>(Down<'a>);
+
+impl<'a> Column<'a> {
+    pub(crate) fn new(file: &'a [u8], layout: &Layout, i: u64, j: u64) -> Column<'a> {
+        Column(Down::new(file, layout, raw::cells_down, i, j))
+    }
+
+    /// Asks the library for so many cells at once: more take more memory, fewer more time.
+    pub fn at_once(mut self, count: usize) -> Column<'a> {
+        self.0.at_once = count.max(1);
+        self
+    }
+}
+
+impl<'a> Iterator for Column<'a> {
+    type Item = Cell<'a>;
+
+    fn next(&mut self) -> Option<Cell<'a>> {
+        let numbers = self.0.numbers()?;
+        Cell::of(numbers, self.0.file)
+    }
+}
+
+/// The label words of a variable's cells, one for each observation.
+pub struct ColumnWords<'a>(Down<'a>);
+
+impl<'a> ColumnWords<'a> {
+    pub(crate) fn new(file: &'a [u8], layout: &Layout, i: u64, j: u64) -> ColumnWords<'a> {
+        ColumnWords(Down::new(file, layout, raw::words_down, i, j))
+    }
+
+    /// As `Column::at_once`.
+    pub fn at_once(mut self, count: usize) -> ColumnWords<'a> {
+        self.0.at_once = count.max(1);
+        self
+    }
+}
+
+impl<'a> Iterator for ColumnWords<'a> {
+    type Item = Words<'a>;
+
+    fn next(&mut self) -> Option<Words<'a>> {
+        let numbers = self.0.numbers()?;
+        Words::of(numbers, self.0.file)
+    }
+}
+
+/// The observations, each as the cells of all variables.
+pub struct Rows<'a> {
+    file: &'a [u8],
+    layout: Layout,
+    j: u64,
+    answers: Vec<u64>,
+}
+
+impl<'a> Rows<'a> {
+    pub(crate) fn new(file: &'a [u8], layout: &Layout, j: u64) -> Rows<'a> {
+        Rows {
+            file,
+            layout: *layout,
+            j,
+            answers: vec![0; layout.variables() as usize * raw::ANSWER],
+        }
+    }
+
+    /// Puts the cells of the next observation into `row`, in place of what was there; whether there was one.
+    pub fn read(&mut self, row: &mut Vec<Cell<'a>>) -> bool {
+        row.clear();
+        if self.j == 0 || self.j > self.layout.observations() {
+            return false;
+        }
+        let count = raw::cells_along(self.file, &self.layout.0, 1, self.j, &mut self.answers);
+        let answers = self.answers.chunks_exact(raw::ANSWER).take(count);
+        row.extend(answers.filter_map(|numbers| Cell::of(numbers.try_into().ok()?, self.file)));
+        self.j += 1;
+        true
+    }
+}
+
+impl<'a> Iterator for Rows<'a> {
+    type Item = Vec<Cell<'a>>;
+
+    fn next(&mut self) -> Option<Vec<Cell<'a>>> {
+        let mut row = Vec::new();
+        self.read(&mut row).then_some(row)
+    }
+}

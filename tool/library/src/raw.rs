@@ -1,0 +1,210 @@
+//! The proved library's functions, on numbers and slices. Each does what its contract in `crates/dta/src/lib.rt` says, for every input.
+//!
+//! The library needs up to 512 KiB of the calling thread's stack. A thread that Rust starts has 2 MiB unless told otherwise.
+
+/// Edition, byte order, K, N, fourteen positions.
+pub const LAYOUT: usize = 18;
+
+/// The numbers of an answer: what it is, and its values.
+pub const ANSWER: usize = 4;
+
+/// The numbers of a long string: v, o, kind, place, length.
+pub const LONG_STRING: usize = 5;
+
+mod c {
+    extern "C" {
+        pub fn dta_check(
+            file: *const u8,
+            file_len: usize,
+            layout: *mut u64,
+            layout_len: usize,
+        ) -> u8;
+        pub fn dta_rewrite(
+            file: *const u8,
+            file_len: usize,
+            edition: u64,
+            order: u64,
+            out: *mut u8,
+            out_len: usize,
+            len: *mut u64,
+            len_len: usize,
+        ) -> u8;
+        pub fn dta_ask(
+            file: *const u8,
+            file_len: usize,
+            layout: *const u64,
+            layout_len: usize,
+            question: u64,
+            i: u64,
+            j: u64,
+            answer: *mut u64,
+            answer_len: usize,
+        ) -> u8;
+        pub fn dta_cells_down(
+            file: *const u8,
+            file_len: usize,
+            layout: *const u64,
+            layout_len: usize,
+            i: u64,
+            j: u64,
+            answers: *mut u64,
+            answers_len: usize,
+        ) -> usize;
+        pub fn dta_cells_along(
+            file: *const u8,
+            file_len: usize,
+            layout: *const u64,
+            layout_len: usize,
+            i: u64,
+            j: u64,
+            answers: *mut u64,
+            answers_len: usize,
+        ) -> usize;
+        pub fn dta_words_down(
+            file: *const u8,
+            file_len: usize,
+            layout: *const u64,
+            layout_len: usize,
+            i: u64,
+            j: u64,
+            answers: *mut u64,
+            answers_len: usize,
+        ) -> usize;
+        pub fn dta_long_list(
+            file: *const u8,
+            file_len: usize,
+            list: *mut u64,
+            list_len: usize,
+            count: *mut u64,
+            count_len: usize,
+        ) -> u8;
+        pub fn dta_set_list(
+            file: *const u8,
+            file_len: usize,
+            list: *mut u64,
+            list_len: usize,
+            count: *mut u64,
+            count_len: usize,
+        ) -> u8;
+    }
+}
+
+// SAFETY, of each call below: the slices are valid for the call and apart from each other, and the library keeps none of them.
+
+/// The verdict on a file, 0 to 13. Eighteen numbers are stored where `layout` has room for them, all zeros with a refusal.
+pub fn check(file: &[u8], layout: &mut [u64]) -> u8 {
+    unsafe { c::dta_check(file.as_ptr(), file.len(), layout.as_mut_ptr(), layout.len()) }
+}
+
+/// Writes the file's dataset in that edition and byte order (1: MSF, 2: LSF) at the start of `out`: 0, or the refusal's number. The result's length
+/// is stored in the first place of `len`, where it has one, 0 with a refusal.
+pub fn rewrite(file: &[u8], edition: u64, order: u64, out: &mut [u8], len: &mut [u64]) -> u8 {
+    unsafe {
+        c::dta_rewrite(
+            file.as_ptr(),
+            file.len(),
+            edition,
+            order,
+            out.as_mut_ptr(),
+            out.len(),
+            len.as_mut_ptr(),
+            len.len(),
+        )
+    }
+}
+
+/// The answer to the question of that number about variable `i` and observation `j`, by a layout of eighteen numbers, right or wrong: 0, or the refusal's
+/// number. The answer is stored as four numbers, where `answer` has room for them.
+pub fn ask(file: &[u8], layout: &[u64], question: u64, i: u64, j: u64, answer: &mut [u64]) -> u8 {
+    unsafe {
+        c::dta_ask(
+            file.as_ptr(),
+            file.len(),
+            layout.as_ptr(),
+            layout.len(),
+            question,
+            i,
+            j,
+            answer.as_mut_ptr(),
+            answer.len(),
+        )
+    }
+}
+
+/// The cells of variable `i` from observation `j` on, four numbers each, as many as `answers` has room for; gives how many.
+pub fn cells_down(file: &[u8], layout: &[u64], i: u64, j: u64, answers: &mut [u64]) -> usize {
+    unsafe {
+        c::dta_cells_down(
+            file.as_ptr(),
+            file.len(),
+            layout.as_ptr(),
+            layout.len(),
+            i,
+            j,
+            answers.as_mut_ptr(),
+            answers.len(),
+        )
+    }
+}
+
+/// The cells of observation `j` from variable `i` on, four numbers each, as many as `answers` has room for; gives how many.
+pub fn cells_along(file: &[u8], layout: &[u64], i: u64, j: u64, answers: &mut [u64]) -> usize {
+    unsafe {
+        c::dta_cells_along(
+            file.as_ptr(),
+            file.len(),
+            layout.as_ptr(),
+            layout.len(),
+            i,
+            j,
+            answers.as_mut_ptr(),
+            answers.len(),
+        )
+    }
+}
+
+/// The label words of the cells of variable `i` from observation `j` on, four numbers each, as many as `answers` has room for; gives how many.
+pub fn words_down(file: &[u8], layout: &[u64], i: u64, j: u64, answers: &mut [u64]) -> usize {
+    unsafe {
+        c::dta_words_down(
+            file.as_ptr(),
+            file.len(),
+            layout.as_ptr(),
+            layout.len(),
+            i,
+            j,
+            answers.as_mut_ptr(),
+            answers.len(),
+        )
+    }
+}
+
+/// The verdict on a file; and the long strings of an accepted one, five numbers each. How many numbers they are is stored in the first place of `count`, where
+/// it has one. A `list` with no room for all of them is left as it came.
+pub fn long_list(file: &[u8], list: &mut [u64], count: &mut [u64]) -> u8 {
+    unsafe {
+        c::dta_long_list(
+            file.as_ptr(),
+            file.len(),
+            list.as_mut_ptr(),
+            list.len(),
+            count.as_mut_ptr(),
+            count.len(),
+        )
+    }
+}
+
+/// The verdict on a file; and the label sets of an accepted one: for each, place and length of its name and its number of entries, and then for each entry
+/// its value, as 32 bits, and place and length of its text. Otherwise as `long_list`.
+pub fn set_list(file: &[u8], list: &mut [u64], count: &mut [u64]) -> u8 {
+    unsafe {
+        c::dta_set_list(
+            file.as_ptr(),
+            file.len(),
+            list.as_mut_ptr(),
+            list.len(),
+            count.as_mut_ptr(),
+            count.len(),
+        )
+    }
+}
