@@ -1,16 +1,17 @@
 -- Laws of readings at any place, for the functions here and for those that call them.
 use mathlib.Core.Path.{_≡_, refl, sym, ap, _∙_}
 use Prim.Native.Nat.{ℕ, zero, suc, _+_, _-_, _*_, _/_, _^_, _≤_, _<_}
-use native.Mathlib.Nat.{mul-zero, le-div-iff-mul-le, div-lt-iff-lt-mul, not-suc-le-zero, pow-zero, pow-suc, mul-pos}
+use native.Mathlib.Nat.{mul-zero, le-div-iff-mul-le, div-lt-iff-lt-mul, not-suc-le-zero, pow-zero, pow-suc, mul-pos, mul-le-mul}
 use native.Mathlib.Omega.{arith}
 use mathlib.Core.List.{List}
-use mathlib.Core.Bool.{Bool, true, false, cond, false≢true}
+use mathlib.Core.Bool.{Bool, true, false, cond, _&&_, false≢true}
 use lib.ListN.{length, getD, take, drop, List·getD-eq-default}
 use lib.Dec.{eqb, leb, ltb}
-use borrow.Author.Tests.{le-leb, lt-leb, leb-true, leb-false, lt-ltb, le-ltb, eqb-true, eqb-false}
+use borrow.Author.Tests.{le-leb, lt-leb, leb-true, leb-false, lt-ltb, le-ltb, ltb-true, eqb-true, eqb-false}
 use Rattle.format.specs.Number.{Order, orderBy, num}
 use Rattle.format.specs.Grammar.{textAt}
 use Rattle.format.specs.Edition.{Edition, edition, r113, r114, r117}
+use Rattle.format.proofs.Good.{and-left, and-right}
 use Rattle.number.specs.Numbers.{IsNumber}
 use Rattle.text.specs.Texts.{IsTextLength}
 use Rattle.text.proofs.TextLaws.{text-bytes}
@@ -273,3 +274,10 @@ release-small n h = go (eqb n 113) refl (eqb n 114) refl (eqb n 117) refl
     go false i true j d y = omega (arith, eqb-true n 114 j)
     go false i false j true y = omega (arith, eqb-true n 117 y)
     go false i false j false y = absurd (false≢true ((rw (i, j, y) refl) ∙ h))
+
+-- two numbers below 2^32 have a product of 64 bits
+pub product-small : (i w : ℕ) → (ltb i 4294967296 && ltb w 4294967296) ≡ true → i * w ≤ 18446744065119617025
+product-small i w e =
+    let a : i ≤ 4294967295 = omega (arith, ltb-true i 4294967296 (and-left (ltb i 4294967296) (ltb w 4294967296) e)) in
+    let b : w ≤ 4294967295 = omega (arith, ltb-true w 4294967296 (and-right (ltb i 4294967296) (ltb w 4294967296) e)) in
+    mul-le-mul {n₁ = i} {m₁ = w} {n₂ = 4294967295} {m₂ = 4294967295} a b

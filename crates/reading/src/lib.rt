@@ -1,9 +1,9 @@
 use editions::Edition;
 ghost use mathlib.Core.Path.{_≡_};
-ghost use mathlib.Core.Bool.{cond};
+ghost use mathlib.Core.Bool.{cond, _&&_};
 ghost use Prim.Native.Nat.{_+_, _-_, _*_, _≤_};
 ghost use lib.ListN.{length};
-ghost use lib.Dec.{leb};
+ghost use lib.Dec.{leb, ltb};
 ghost use Rattle.format.specs.Number.{orderBy};
 ghost use Rattle.questions.specs.Ask.{among};
 ghost use Rattle.reading.specs.Reads.{tryOf, noRead, NumberRead, lengthIn, placeIn, isRelease, isOrder, openedBy, editionIn};
@@ -73,10 +73,23 @@ fn least(a: usize, b: usize) -> usize
     if a <= b { a } else { b }
 }
 
-// Whether `index * width` is at most `n`.
+// Whether both numbers are below 2^32.
+fn both_small(a: u64, b: u64) -> bool
+    ensures { λ r. ⌜ r ≡ (ltb a 4294967296 && ltb b 4294967296) ⌝ }
+{
+    if a < 4294967296 {
+        return b < 4294967296;
+    }
+    false
+}
+
+// Whether `index * width` is at most `n`. Small numbers need no division.
 fn product_within(n: u64, index: u64, width: u64) -> bool
     ensures { λ r. ⌜ r ≡ leb (index * width) n ⌝ }
 {
+    if both_small(index, width) {
+        return index * width <= n;
+    }
     if width == 0 {
         return true;
     }

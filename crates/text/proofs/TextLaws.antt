@@ -2,21 +2,27 @@
 use mathlib.Core.Path.{_≡_, refl, sym, ap, _∙_}
 use Prim.Native.Nat.{ℕ, zero, suc, _+_, _-_, _≤_, _<_}
 use native.Mathlib.Omega.{arith}
+use native.Mathlib.Nat.{add-zero, zero-add, add-suc, sub-zero}
 use native.Mathlib.Numerals.{add-one}
 use mathlib.Core.List.{List, [], _∷_, _++_}
-use mathlib.Core.Bool.{Bool, true, false}
+use mathlib.Core.Bool.{Bool, true, false, _||_, true≢false}
 use lib.ListN.{length, getD, take, drop, replicate, length-drop, drop-of-length-le}
 use lib.Seq.{drop-cons, take-suc, getD-take, getD-drop, length-take-le, ext-getD}
 use lib.Dec.{eqb}
-use borrow.Author.Tests.{eq-eqb, ne-eqb, le-leb, lt-leb}
+use borrow.Author.Tests.{eq-eqb, ne-eqb, eqb-false, le-leb, lt-leb}
 use Rattle.format.specs.Slot.{fill}
 use Rattle.format.specs.Grammar.{unless, textAt, textSlots, raw, sameAt, tag}
 use Rattle.format.proofs.SlotLaws.{length-tab, getD-tab}
 use Rattle.format.proofs.WriteLaws.{fill-text}
+use Rattle.text.specs.Texts.{hasZero}
 
 -- what is left of n, one at a time
 left : (n i : ℕ) → i < n → n - i ≡ suc (n - (i + 1))
 left n i b = omega arith
+
+or-false : (a b : Bool) → (a || b) ≡ false → (a ≡ false) × (b ≡ false)
+or-false true b e = absurd (true≢false e)
+or-false false b e = (refl, e)
 
 -- ---- the search for a text's end
 
@@ -31,6 +37,35 @@ module _ (w : ℕ) (f : List ℕ) (p i : ℕ) where
 
   pub text-none : w ≤ i → length (textAt (w - i) f (p + i)) ≡ 0
   text-none b = let e : w - i ≡ 0 = omega arith in rw e
+
+-- ---- the search by blocks
+
+module _ (f : List ℕ) (p : ℕ) where
+  pub zero-none : hasZero 0 f p ≡ false
+  unfolding hasZero
+  zero-none = refl
+
+  -- one byte more
+  pub zero-turn : (k : ℕ) → (hasZero k f p || eqb (getD f (p + k) 0) 0) ≡ hasZero (k + 1) f p
+  unfolding hasZero
+  zero-turn k = rw add-one
+
+  -- one block more
+  pub zero-block : (m b : ℕ) → hasZero m f p ≡ false → hasZero b f (p + m) ≡ false → hasZero (m + b) f p ≡ false
+  unfolding hasZero
+  zero-block m zero h z = rw add-zero h
+  zero-block m (suc b) h z =
+      let o = or-false (hasZero b f (p + m)) (eqb (getD f (p + m + b) 0) 0) z in
+      let g : p + (m + b) ≡ p + m + b = omega arith in
+      rw (add-suc, zero-block m b h (o .0), g) (o .1)
+
+  -- past bytes without a zero the text goes on
+  pub zero-past : (w n : ℕ) → n ≤ w → hasZero n f p ≡ false → n + length (textAt (w - n) f (p + n)) ≡ length (textAt w f p)
+  unfolding hasZero
+  zero-past w zero b h = rw (zero-add, sub-zero, add-zero)
+  zero-past w (suc n) b h =
+      let o = or-false (hasZero n f p) (eqb (getD f (p + n) 0) 0) h in
+      rw (← add-one n) (omega (arith, zero-past w n (omega arith) (o .0), text-turn w f p n (omega arith) (eqb-false (getD f (p + n) 0) 0 (o .1))))
 
 -- ---- the bytes of a file at a place
 

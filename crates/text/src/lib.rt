@@ -1,17 +1,62 @@
 ghost use mathlib.Core.Path.{_≡_};
 ghost use mathlib.Core.List.{_++_};
-ghost use Prim.Native.Nat.{ℕ, _+_, _≤_};
+ghost use mathlib.Core.Bool.{false};
+ghost use Prim.Native.Nat.{ℕ, _+_, _≤_, _<_};
 ghost use lib.ListN.{length, take, drop, replicate};
 ghost use Rattle.format.specs.Slot.{fill};
 ghost use Rattle.format.specs.Grammar.{textAt, textSlots, sameAt, tag};
-ghost use Rattle.text.specs.Texts.{IsTextLength};
+ghost use Rattle.text.specs.Texts.{IsTextLength, hasZero};
+
+// Whether there is a zero among the `b` bytes at `p`. It looks at all of them: where `b` is a constant, they are compared at once.
+fn has_zero(f: &[u8], p: usize, b: usize) -> bool
+    requires { ⌜ p + b ≤ length (now f) ⌝ }
+    ensures { λ r. ⌜ r ≡ hasZero b (now (f .entry)) p ⌝ }
+{
+    let mut any = false;
+    let mut k: usize = 0;
+    while k < b {
+        any = any | (f[p + k] == 0);
+        k += 1;
+    }
+    any
+}
+
+// Goes on from `s` in the field of `w` bytes at `p`, by blocks of `b` bytes, up to the first block that has a zero.
+fn pass_blocks(f: &[u8], p: usize, w: usize, s: usize, b: usize) -> usize
+    requires { ⌜ (p + w ≤ length (now f)) × (0 < b) × (s ≤ w) × (hasZero s (now f) p ≡ false) ⌝ }
+    ensures { λ r. ⌜ (r ≤ w) × (hasZero r (now (f .entry)) p ≡ false) ⌝ }
+{
+    let mut m = s;
+    while b <= w - m {
+        if has_zero(f, p + m, b) {
+            return m;
+        }
+        m += b;
+    }
+    m
+}
+
+// A part of the text at the start of the field of `w` bytes at `p`, all but fewer than eight bytes of it. A text of fewer is left whole.
+fn pass_start(f: &[u8], p: usize, w: usize) -> usize
+    requires { ⌜ p + w ≤ length (now f) ⌝ }
+    ensures { λ r. ⌜ (r ≤ w) × (hasZero r (now (f .entry)) p ≡ false) ⌝ }
+{
+    if w < 8 {
+        return 0;
+    }
+    if has_zero(f, p, 8) {
+        return 0;
+    }
+    let m = pass_blocks(f, p, w, 8, 32);
+    pass_blocks(f, p, w, m, 8)
+}
 
 // The length of the text in the field of `w` bytes at `p`: it ends before the first zero, or at the field's end.
 pub fn text_len(f: &[u8], p: usize, w: usize) -> usize
     requires { ⌜ p + w ≤ length (now f) ⌝ }
     ensures { λ r. ⌜ IsTextLength w (now (f .entry)) p r ⌝ }
 {
-    let mut n: usize = 0;
+    let mut n = pass_start(f, p, w);
     while n < w {
         if f[p + n] == 0 {
             return n;

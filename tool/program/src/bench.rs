@@ -142,7 +142,7 @@ fn least(mut work: impl FnMut()) -> Duration {
     (0..RUNS).map(run).min().unwrap_or_default()
 }
 
-/// Reads every cell, with the long string that it means, and every label.
+/// Reads every cell, with the long string that it means.
 fn read(file: &File<&Vec<u8>>) -> u64 {
     let longs = file.long_strings();
     let mut rows = file.rows();

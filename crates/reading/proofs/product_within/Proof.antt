@@ -1,25 +1,33 @@
-use borrow.Author.Needs.{needs}
-use mathlib.Core.Path.{sym}
-use Rattle.reading.proofs.ReadLaws.{product-none, product-is}
+use mathlib.Core.Path.{sym, _∙_}
+use native.Mathlib.Omega.{arith}
+use Rattle.reading.proofs.ReadLaws.{product-none, product-is, product-small}
 use borrow.Author.Needs.{needs}
 use Rattle.reading.proofs.product_within.Statement.{statement}
 use Rattle.reading.proofs.product_within.Tie as tie
 use Rattle.reading.proofs.product_within.Reads as reads
 use Rattle.reading.proofs.product_within.Lts as lts
+use Rattle.reading.proofs.both_small.Reads as both-small-reads
 
--- src/lib.rt:81:9
+both-small-requires : tie.Need-both-small-requires
+both-small-requires c κs = search needs
+
+mul-result : tie.Need-mul-result
+mul-result c =
+    let a = c .before .before .args in
+    let m = product-small (a .index) (a .width) (sym (c .before .both-small .ensures) ∙ c .if1 .taken) in
+    record { fits = omega (arith, m) }
+
 returns : tie.Need-returns
-returns c =
-    sym (product-none (c .before .args .n) (c .before .args .index) (c .before .args .width) (c .if1 .taken))
+returns c = search needs
 
--- src/lib.rt:83:14
+returns-2 : tie.Need-returns-2
+returns-2 c = let a = c .before .before .before .args in sym (product-none (a .n) (a .index) (a .width) (c .if2 .taken))
+
 div-result : tie.Need-div-result
 div-result c = search needs
 
--- src/lib.rt:77:1
-returns-2 : tie.Need-returns-2
-returns-2 c =
-    product-is (c .before .args .n) (c .before .args .index) (c .before .args .width) (c .if1 .left)
+returns-3 : tie.Need-returns-3
+returns-3 c = let a = c .before .before .before .args in product-is (a .n) (a .index) (a .width) (c .if2 .left)
 
 pub product-within-spec : {M : Type 1} → statement M
-product-within-spec = tie.close (tie.spec returns div-result returns-2)
+product-within-spec = tie.close (tie.spec both-small-requires mul-result returns returns-2 div-result returns-3)
