@@ -326,6 +326,27 @@ fn layouts_and_questions_that_are_none() {
     }
 }
 
+/// The stack that the header for C programs asks for.
+#[test]
+fn half_a_megabyte_of_stack_is_enough() {
+    let asked = || {
+        let file = stated::case("117-msf-typical");
+        let own = numbers(&check(&file).unwrap());
+        let mut lent = [BEFORE; 400];
+        let mut count = [BEFORE];
+        for number in 0..16 {
+            assert_eq!(raw::ask(&file, &own, number, 1, 1, &mut lent), 0);
+        }
+        let many = [raw::cells_down, raw::cells_along, raw::words_down];
+        assert!(many.iter().all(|run| run(&file, &own, 1, 1, &mut lent) > 0));
+        assert_eq!(raw::long_list(&file, &mut lent, &mut count), 0);
+        assert_eq!(raw::set_list(&file, &mut lent, &mut count), 0);
+        assert!(count[0] > 3);
+    };
+    let thread = std::thread::Builder::new().stack_size(512 * 1024);
+    thread.spawn(asked).unwrap().join().unwrap();
+}
+
 // Lists.
 
 /// The numbers of a file's long strings, and of its label sets.
