@@ -5,10 +5,14 @@ use native.Mathlib.Numerals.{add-one}
 use native.Mathlib.Omega.{arith}
 use mathlib.Core.List.{List}
 use borrow.Rule.Slice.PartMut.{putMid}
+use mathlib.Core.Bool.{_&&_}
+use lib.Dec.{eqb, leb}
+use borrow.Author.Tests.{leb-true}
 use lib.ListN.{length, getD, take, drop, length-append}
 use Rattle.format.specs.Number.{Order, num}
 use Rattle.format.specs.Grammar.{textAt}
-use Rattle.format.specs.Labels.{Table, tableSize}
+use Rattle.format.specs.Labels.{Table, tableHead, tableBody, table, tableSize}
+use Rattle.format.proofs.Good.{and-right}
 use Rattle.questions.specs.Fact.{labelAt}
 use Rattle.questions.proofs.ReadLaws.{text-in}
 use Rattle.questions.proofs.TableLaws.{table-facts, labelled}
@@ -64,6 +68,14 @@ module _ (o : Order) (f : List ℕ) (p n x : ℕ) where
   -- the table is in the file
   pub room-in : {r : ℕ} → TableRoom o f p n x r → p + 8 + n * 4 + n * 4 + x ≤ length f
   room-in R = omega (arith, table-read o f p n x (R .this) (R .stands) .inside)
+
+  -- its text is not too long
+  pub room-small : {r : ℕ} → TableRoom o f p n x r → x ≤ 5308416
+  unfolding table tableHead tableBody
+  room-small R =
+      let t = R .this in
+      let h = and-right (eqb (tableSize t) (8 + (8 * length (t .offsets) + length (t .texts)))) (leb (length (t .offsets)) 65536 && leb (length (t .texts)) 5308416) (R .stands .right .1 .0 .1) in
+      omega (arith, leb-true (length (t .texts)) 5308416 (and-right (leb (length (t .offsets)) 65536) (leb (length (t .texts)) 5308416) h), R .stands .chars)
 
   module _ {d : List ℕ} where
     pub entered-none : TableRoom o f p n x (length f) → Entered d d 0

@@ -1,3 +1,4 @@
 pub mod EntryLaws
+pub mod EndLaws
 pub mod SetLaws
 pub mod SetsAt

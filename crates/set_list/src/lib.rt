@@ -1,17 +1,20 @@
 // The label sets of a file, as numbers.
 use long_list::Listed;
 ghost use mathlib.Core.List.{[], _∷_};
-ghost use Prim.Native.Nat.{_+_, _*_, _≤_};
+ghost use mathlib.Core.Path.{_≡_};
+ghost use Prim.Native.Nat.{_+_, _-_, _*_, _≤_};
 ghost use lib.ListN.{length};
 ghost use Rattle.format.specs.Number.{orderBy, num};
 ghost use Rattle.format.specs.Grammar.{textAt};
 ghost use Rattle.format.specs.Labels.{Table, block};
+ghost use Rattle.text.specs.Texts.{IsTextLength};
 ghost use Rattle.writing.specs.Writes.{Puts};
 ghost use Rattle.write_tables.specs.Tables.{TableRoom};
 ghost use Rattle.long_list.specs.Lists.{Lists};
 ghost use Rattle.long_list.specs.Told.{ToldRoom, ToldCount, ToldPut};
 ghost use Rattle.set_list.specs.Sets.{entriesTo, setNumbers, setsFrom, setsOf};
 ghost use Rattle.set_list.specs.Reads.{entryRead, PutsOf, BlockHere, ReadsBlock};
+ghost use Rattle.set_list.specs.Ends.{EndsBy, Ends};
 
 // Where a label block's name and table stand, how many entries and text bytes the table has, and where the next block stands.
 struct Block {
@@ -21,6 +24,51 @@ struct Block {
     chars: usize,
     next: usize,
 }
+
+// ---- where texts end: many entries may name one long text, so its end is looked for once
+
+// Where the text from `y` on ends, of the text area at `a`: before `z`, or where that from `z` on does, at `e`.
+fn end_from(f: &[u8], a: usize, y: usize, z: usize, e: usize) -> usize
+    requires { ⌜ (y ≤ z) × (a + z ≤ length (now f)) ⌝ }
+    ensures { λ r. ⌜ EndsBy (now (f .entry)) a y z e r ⌝ }
+{
+    let n = text::text_len(f, a + y, z - y);
+    if n < z - y {
+        return y + n;
+    }
+    e
+}
+
+// For each place of the text area of `x` bytes at `a` that is a multiple of 256, where the text from there on ends. At most 5,308,416 / 256 + 1 places.
+fn fill_ends(t: &mut [u32; 20737], f: &[u8], a: usize, x: usize)
+    requires { ⌜ (a + x ≤ length (now f)) × (x ≤ 5308416) × (length (now t) ≡ 20737) ⌝ }
+    ensures { λ _. ⌜ Ends (now (f .entry)) a x 0 (now (t .exit)) ⌝ }
+{
+    let mut b = x / 256 + 1;
+    let mut y = x;
+    let mut e = x;
+    while 0 < b {
+        b -= 1;
+        e = end_from(f, a, b * 256, y, e);
+        y = b * 256;
+        t[b] = e as u32;
+    }
+}
+
+// The length of the text from `y` on: at most 256 bytes are read.
+fn length_from(f: &[u8], t: &[u32; 20737], a: usize, x: usize, y: usize) -> usize
+    requires { ⌜ (Ends (now f) a x 0 (now t)) × (a + x ≤ length (now f)) × (x ≤ 5308416) × (y ≤ x) ⌝ }
+    ensures { λ r. ⌜ IsTextLength (x - y) (now (f .entry)) (a + y) r ⌝ }
+{
+    let b = y / 256 + 1;
+    let z = b * 256;
+    if x < z {
+        return text::text_len(f, a + y, x - y);
+    }
+    end_from(f, a, y, z, t[b] as usize) - y
+}
+
+// ---- entries
 
 // Puts three numbers.
 fn put_three(out: &mut [u64], a: u64, b: u64, c: u64)
@@ -32,41 +80,68 @@ fn put_three(out: &mut [u64], a: u64, b: u64, c: u64)
     out[2] = c;
 }
 
-// Puts the numbers of an entry: its value stands at `v`, its offset at `p`, and the text area of `x` bytes at `a`.
-fn put_entry(out: &mut [u64], f: &[u8], v: usize, p: usize, a: usize, x: usize, msf: bool)
-    requires { ⌜ (v + 4 ≤ length (now f)) × (p + 4 ≤ length (now f)) × (a + x ≤ length (now f)) × (num (orderBy msf) 4 (now f) p ≤ x) × (3 ≤ length (now out)) ⌝ }
+// Puts the numbers of an entry: its value stands at `v`, its offset at `p`, and the text area of `x` bytes at `a`, of which `t` says where texts end.
+fn put_entry(
+    out: &mut [u64],
+    f: &[u8],
+    t: &[u32; 20737],
+    v: usize,
+    p: usize,
+    a: usize,
+    x: usize,
+    msf: bool,
+)
+    requires { ⌜ (v + 4 ≤ length (now f)) × (p + 4 ≤ length (now f)) × (a + x ≤ length (now f)) × (num (orderBy msf) 4 (now f) p ≤ x) × (3 ≤ length (now out)) × (x ≤ 5308416) × (Ends (now f) a x 0 (now t)) ⌝ }
     ensures { λ _. ⌜ Puts (entryRead (orderBy msf) (now (f .entry)) v p a x) (now (out .entry)) (now (out .exit)) 3 ⌝ }
 {
     let value = number::number(f, v, 4, msf);
     let y = number::number(f, p, 4, msf) as usize;
-    let t = a + y;
-    let k = text::text_len(f, t, x - y);
-    put_three(out, value, t as u64, k as u64);
+    let k = length_from(f, t, a, x, y);
+    put_three(out, value, (a + y) as u64, k as u64);
 }
 
-// Puts those of each entry of the table of `n` entries and `x` text bytes at `p`.
-fn put_entries(out: &mut [u64], f: &[u8], p: usize, n: usize, x: usize, msf: bool)
-    requires { ⌜ (TableRoom (orderBy msf) (now f) p n x (length (now f))) × (n * 3 ≤ length (now out)) ⌝ }
-    ensures { λ _. ⌜ PutsOf (orderBy msf) (now (f .entry)) p n x (λ (t : Table). entriesTo t (p + 8 + n * 4 + n * 4) n) (now (out .entry)) (now (out .exit)) (n * 3) ⌝ }
+// Puts those of each entry of the table of `n` entries and `x` text bytes at `p`; `t` is filled on the way.
+fn put_entries(
+    out: &mut [u64],
+    f: &[u8],
+    t: &mut [u32; 20737],
+    p: usize,
+    n: usize,
+    x: usize,
+    msf: bool,
+)
+    requires { ⌜ (TableRoom (orderBy msf) (now f) p n x (length (now f))) × (n * 3 ≤ length (now out)) × (length (now t) ≡ 20737) ⌝ }
+    ensures { λ _. ⌜ (PutsOf (orderBy msf) (now (f .entry)) p n x (λ (u : Table). entriesTo u (p + 8 + n * 4 + n * 4) n) (now (out .entry)) (now (out .exit)) (n * 3)) × (length (now (t .exit)) ≡ 20737) ⌝ }
 {
     let o = p + 8;
     let v = o + n * 4;
     let a = v + n * 4;
+    fill_ends(t, f, a, x);
     let mut m: usize = 0;
     while m < n {
-        put_entry(&mut out[m * 3..], f, v + m * 4, o + m * 4, a, x, msf);
+        put_entry(&mut out[m * 3..], f, t, v + m * 4, o + m * 4, a, x, msf);
         m += 1;
     }
 }
 
 // Puts the numbers of a label set: its name stands in the `w` bytes at `a`, its table at `p`.
-fn put_set(out: &mut [u64], f: &[u8], a: usize, w: usize, p: usize, n: usize, x: usize, msf: bool)
-    requires { ⌜ (TableRoom (orderBy msf) (now f) p n x (length (now f))) × (a + w ≤ length (now f)) × (3 + n * 3 ≤ length (now out)) ⌝ }
-    ensures { λ _. ⌜ PutsOf (orderBy msf) (now (f .entry)) p n x (λ (t : Table). setNumbers a (length (textAt w (now (f .entry)) a)) p n t) (now (out .entry)) (now (out .exit)) (3 + n * 3) ⌝ }
+fn put_set(
+    out: &mut [u64],
+    f: &[u8],
+    t: &mut [u32; 20737],
+    a: usize,
+    w: usize,
+    p: usize,
+    n: usize,
+    x: usize,
+    msf: bool,
+)
+    requires { ⌜ (TableRoom (orderBy msf) (now f) p n x (length (now f))) × (a + w ≤ length (now f)) × (3 + n * 3 ≤ length (now out)) × (length (now t) ≡ 20737) ⌝ }
+    ensures { λ _. ⌜ (PutsOf (orderBy msf) (now (f .entry)) p n x (λ (u : Table). setNumbers a (length (textAt w (now (f .entry)) a)) p n u) (now (out .entry)) (now (out .exit)) (3 + n * 3)) × (length (now (t .exit)) ≡ 20737) ⌝ }
 {
     let k = text::text_len(f, a, w);
     put_three(&mut out[..], a as u64, k as u64, n as u64);
-    put_entries(&mut out[3..], f, p, n, x, msf);
+    put_entries(&mut out[3..], f, t, p, n, x, msf);
 }
 
 // The label block at `p`.
@@ -103,7 +178,7 @@ fn sets_count(f: &[u8], p: usize, q: usize, tagged: bool, w: usize, msf: bool) -
     n
 }
 
-// Puts them; gives how many.
+// Puts them; gives how many. The list of ends is made once, for all tables.
 fn put_sets(
     out: &mut [u64],
     f: &[u8],
@@ -116,6 +191,7 @@ fn put_sets(
     requires { ⌜ ToldRoom (block tagged (orderBy msf) w) (setsFrom tagged (orderBy msf) w) (now f) p q (length (now out)) ⌝ }
     ensures { λ r. ⌜ ToldPut (block tagged (orderBy msf) w) (setsFrom tagged (orderBy msf) w) (now (f .entry)) p q (now (out .entry)) (now (out .exit)) r ⌝ }
 {
+    let mut t = [0u32; 20737];
     let mut at = p;
     let mut n: usize = 0;
     while at < q {
@@ -123,6 +199,7 @@ fn put_sets(
         put_set(
             &mut out[n..],
             f,
+            &mut t,
             b.name,
             w,
             b.table,

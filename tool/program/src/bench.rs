@@ -142,7 +142,7 @@ fn least(mut work: impl FnMut()) -> Duration {
     (0..RUNS).map(run).min().unwrap_or_default()
 }
 
-/// Reads every cell, with the long string that it means.
+/// Reads every cell, with the long string that it means, and every label.
 fn read(file: &File<&Vec<u8>>) -> u64 {
     let longs = file.long_strings();
     let mut rows = file.rows();
@@ -163,6 +163,11 @@ fn read(file: &File<&Vec<u8>>) -> u64 {
             };
             sum = sum.wrapping_add(value);
         }
+    }
+    for set in file.label_sets() {
+        sum = set
+            .entries
+            .fold(sum, |sum, (_, text)| sum.wrapping_add(text.len() as u64));
     }
     sum
 }

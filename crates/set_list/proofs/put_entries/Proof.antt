@@ -4,15 +4,15 @@ use native.Mathlib.Omega.{arith}
 use lib.ListN.{length-take, length-drop}
 use borrow.Author.Needs.{needs}
 use Rattle.format.specs.Number.{orderBy}
-use Rattle.set_list.proofs.EntryLaws.{Entered, room-in, entered-none, entered-low, entered-on, entered-all}
+use Rattle.set_list.proofs.EntryLaws.{Entered, room-in, room-small, entered-none, entered-low, entered-on, entered-all}
 use Rattle.set_list.proofs.put_entries.Statement.{statement}
 use Rattle.set_list.proofs.put_entries.Tie as tie
 
 abbrev Inv-loop : tie.InvT-loop
-Inv-loop out₀ f p n x msf o v a m₀ out m = Entered (orderBy msf) f p n x out₀ out m
+Inv-loop out₀ f t p n x msf o v a m₀ out m = Entered (orderBy msf) f p n x out₀ out m
 
 abbrev μ-loop : tie.MeasureT-loop
-μ-loop out₀ f p n x msf o v a m₀ out m = n - m
+μ-loop out₀ f t p n x msf o v a m₀ out m = n - m
 
 add-o : tie.Need-add-o Inv-loop μ-loop
 add-o c =
@@ -44,9 +44,15 @@ add-a c =
     let h = room-in (orderBy (s .args .msf)) (s .args .f .now) (s .args .p) (s .args .n) (s .args .x) (s .pre .0) in
     record { fits = omega arith }
 
+fill-ends-requires : tie.Need-fill-ends-requires Inv-loop μ-loop
+fill-ends-requires c κs =
+    let s = c .before .before .before in
+    let h = room-in (orderBy (s .args .msf)) (s .args .f .now) (s .args .p) (s .args .n) (s .args .x) (s .pre .0) in
+    (omega arith, room-small (orderBy (s .args .msf)) (s .args .f .now) (s .args .p) (s .args .n) (s .args .x) (s .pre .0), s .pre .2)
+
 loop-holds : tie.Need-loop-holds Inv-loop μ-loop
 loop-holds c =
-    let s = c .before .before in
+    let s = c .before .before .before .before in
     entered-none (orderBy (s .args .msf)) (s .args .f .now) (s .args .p) (s .args .n) (s .args .x) (s .pre .0)
 
 mul-put-entry : tie.Need-mul-put-entry Inv-loop μ-loop
@@ -78,10 +84,11 @@ add-put-entry-2 c = search needs
 
 put-entry-requires : tie.Need-put-entry-requires Inv-loop μ-loop
 put-entry-requires c κs =
-    let l = c .before .before .loop in
-    let a = c .before .before .before .before .before .args in
-    let low = entered-low (orderBy (a .msf)) (a .f .now) (a .p) (a .n) (a .x) (l .inv) (omega arith) in
-    (omega arith, omega arith, omega arith, low, simp (length-take, length-drop) (omega arith))
+    let l = c .before .before .before in
+    let a = l .before .before .before .before .before .args in
+    let H = l .loop .inv in
+    let low = entered-low (orderBy (a .msf)) (a .f .now) (a .p) (a .n) (a .x) H (omega arith) in
+    (omega arith, omega arith, omega arith, low, simp (length-take, length-drop) (omega arith), room-small (orderBy (a .msf)) (a .f .now) (a .p) (a .n) (a .x) (H .some), l .before .fill-ends .ensures)
 
 add-m : tie.Need-add-m Inv-loop μ-loop
 add-m c = search needs
@@ -91,8 +98,8 @@ loop-less c = search needs
 
 loop-again : tie.Need-loop-again Inv-loop μ-loop
 loop-again c =
-    let l = c .before .before .before .before .before .loop in
-    let s = c .before .before .before .before .before .before .before .before in
+    let l = c .before .before .before .before .before .before .loop in
+    let s = c .before .before .before .before .before .before .before .before .before .before .before in
     let a = s .args in
     let y = c .before .before .put-entry in
     entered-on (orderBy (a .msf)) (a .f .now) (a .p) (a .n) (a .x) (l .inv) (y .last .0) (omega arith) (s .pre .1) (y .ensures)
@@ -102,8 +109,8 @@ same-length c = c .before .loop .inv .whole
 
 returns : tie.Need-returns Inv-loop μ-loop
 returns c =
-    let a = c .before .before .before .before .args in
-    entered-all (orderBy (a .msf)) (a .f .now) (a .p) (a .n) (a .x) (c .before .loop .inv) (omega arith)
+    let a = c .before .before .before .before .before .before .args in
+    (entered-all (orderBy (a .msf)) (a .f .now) (a .p) (a .n) (a .x) (c .before .loop .inv) (omega arith), c .before .before .fill-ends .ensures .long)
 
 pub put-entries-spec : {M : Type 1} → statement M
 put-entries-spec =
@@ -116,6 +123,7 @@ put-entries-spec =
     add-v
     mul-a
     add-a
+    fill-ends-requires
     loop-holds
     mul-put-entry
     mul-put-entry-2

@@ -15,14 +15,11 @@ number-requires c κs = search needs
 number-requires-2 : tie.Need-number-requires-2
 number-requires-2 c κs = search needs
 
-add-t : tie.Need-add-t
-add-t c = search needs
+length-from-requires : tie.Need-length-from-requires
+length-from-requires c κs = search needs
 
-sub-text-len : tie.Need-sub-text-len
-sub-text-len c = search needs
-
-text-len-requires : tie.Need-text-len-requires
-text-len-requires c κs = search needs
+add-put-three : tie.Need-add-put-three
+add-put-three c = search needs
 
 put-three-requires : tie.Need-put-three-requires
 put-three-requires c κs = search needs
@@ -35,7 +32,7 @@ returns c =
     let a = c .before .before .before .before .before .before .before .before .before .args in
     let v = c .before .before .before .before .before .before .number .ensures .is in
     let y = c .before .before .before .before .before .number2 .ensures .is in
-    let k = c .before .before .before .before .text-len .ensures .is ∙ ap (λ (z : ℕ). length (textAt (a .x - z) (a .f .now) (a .a + z))) y in
+    let k = c .before .before .before .before .length-from .ensures .is ∙ ap (λ (z : ℕ). length (textAt (a .x - z) (a .f .now) (a .a + z))) y in
     puts-as (λ i. v i ∷ (a .a + y i) ∷ k i ∷ []) (c .before .before .put-three .ensures)
 
 pub put-entry-spec : {M : Type 1} → statement M
@@ -44,9 +41,8 @@ put-entry-spec =
     (tie.spec
     number-requires
     number-requires-2
-    add-t
-    sub-text-len
-    text-len-requires
+    length-from-requires
+    add-put-three
     put-three-requires
     same-length
     returns)

@@ -33,12 +33,11 @@ same-length c = search needs
 
 returns : tie.Need-returns
 returns c =
-    let s = c .before .before .before .before .before .before .before .before .before .before .before in
-    let a = s .args in
-    let k = c .before .before .before .before .before .before .before .before .text-len .ensures .is in
+    let d = c .before .before .before .before .before .before .before in
+    let a = d .before .before .before .before .before .args in
     let y = c .before .before .put-entries in
-    let first = puts-first (puts-as (ap (λ (z : ℕ). a .a ∷ z ∷ a .n ∷ []) k) (c .before .before .before .before .before .before .put-three .ensures)) (omega arith) in
-    record { all = λ t T. puts-of (puts-part first (entriesTo t (a .p + 8 + a .n * 4 + a .n * 4) (a .n)) (y .last .0) (a .n * 3) (y .ensures .all t T) (omega arith)) }
+    let first = puts-first (puts-as (ap (λ (z : ℕ). a .a ∷ z ∷ a .n ∷ []) (d .before .before .text-len .ensures .is)) (d .put-three .ensures)) (omega arith) in
+    (record { all = λ u U. puts-of (puts-part first (entriesTo u (a .p + 8 + a .n * 4 + a .n * 4) (a .n)) (y .last .0) (a .n * 3) (y .ensures .0 .all u U) (omega arith)) }, y .ensures .1)
 
 pub put-set-spec : {M : Type 1} → statement M
 put-set-spec =
