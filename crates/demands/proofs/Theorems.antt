@@ -1,7 +1,7 @@
 -- The three demands hold.
 use mathlib.Core.Path.{_≡_, refl, sym, ap, _∙_, subst}
 use Prim.Native.Nat.{ℕ, _≤_, _<_}
-use mathlib.Core.List.{List}
+use mathlib.Core.List.{List, []}
 use mathlib.Core.Bool.{true, false, _&&_, true≢false}
 use lib.ListN.{length, getD, take}
 use lib.Dec.{leb}
@@ -14,12 +14,13 @@ use Rattle.format.proofs.HoldsLaws.{holds-if}
 use Rattle.editions.specs.Editions.{releaseBy}
 use Rattle.checking.specs.declared.Checked.{Checked}
 use Rattle.checking.specs.Checks.{Checks, layoutBy}
-use Rattle.questions.specs.Ask.{Question, askWords, shown, inRange, answerOf}
+use Rattle.questions.specs.Ask.{Question, askLong, askWords, shown, inRange, answerOf}
 use Rattle.questions.specs.Fact.{bytesOf}
 use Rattle.questions.proofs.Theorems.{own-answer, own-bytes, own-some, same-answer, same-shown, label-exact, label-found}
+use Rattle.asking.specs.Asking.{questionBy}
 use Rattle.rewriting.specs.declared.Rewritten.{Rewritten}
 use Rattle.rewriting.specs.Rewriting.{offered, editionTo, orderTo, rewritten, Rewrites}
-use Rattle.demands.specs.Demands.{Demand1, WellFormed, Accepted, Says, FactGiven, WordsGiven, ReadsBack, Demand2, DifferInDead, SameAnswer, Demand3}
+use Rattle.demands.specs.Demands.{Demand1, WellFormed, Accepted, Says, FactGiven, WordsGiven, ReadsBack, Demand2, DifferInDead, SameAnswer, SameView, Demand3}
 use Rattle.demands.proofs.CheckLaws.{check-given}
 use Rattle.demands.proofs.AskLaws.{ask-given}
 use Rattle.demands.proofs.LabelLaws.{words-given}
@@ -123,12 +124,22 @@ module _ (f g : List ℕ) (c : Checked) (A : Accepted f c) (D : DifferInDead f g
       subst (λ (l : Layout). SameAnswer f g l q) (sym (A .answer .layout))
       (record { answer = same-answer f (A .is-file) (ok f c A) g (D .long) same q; bytes = same-shown f (A .is-file) (ok f c A) g (D .long) same q })
 
+same-view : (f g : List ℕ) (c : Checked) → Accepted f c → DifferInDead f g → SameView f g (layoutBy (c .layout))
+same-view f g c A D =
+    record {
+      answer = λ q a b x y lent. y lent ∙ same-asked f g c A D (questionBy lent q) .answer ∙ sym (x lent);
+      text = λ q. same-asked f g c A D (questionBy [] q) .bytes;
+      long = λ i j. same-asked f g c A D (askLong i j) .bytes;
+      words = λ t i j. same-asked f g c A D (askWords i j t) .bytes;
+    }
+
 pub demand-3 : Demand3
 demand-3 =
     record {
       checked = same-check;
       dataset = λ f g c A D. alike f g c A D .dataset;
       asked = same-asked;
+      viewed = same-view;
       longs = λ f g c A D. same-long-list f (A .is-file) (ok f c A) g (D .long) (same f g c A D);
       sets = λ f g c A D. same-set-list f (A .is-file) (ok f c A) g (D .long) (same f g c A D);
       rewrote = λ f g c A D e o. same-rewrite f g (alike f g c A D .accepted ∙ sym (ok f c A)) (alike f g c A D .dataset) e o;

@@ -33,6 +33,11 @@ use Rattle.long_list.specs.declared.Listed.{Listed}
 use Rattle.long_list.specs.Lists.{Lists}
 use Rattle.long_list.specs.Longs.{longsOf}
 use Rattle.set_list.specs.Sets.{setsOf}
+use Rattle.asking.specs.declared.Question as Code
+use Rattle.asking.specs.declared.Answer as Told
+use Rattle.asking.specs.Asking.{answerBy, Asked}
+use Rattle.parts.specs.Parts.{textOf, longOf}
+use Rattle.view.specs.Words.{wordsOf}
 use Rattle.rewriting.specs.declared.Rewritten.{Rewritten}
 use Rattle.rewriting.specs.Rewriting.{editionTo, orderTo, offered, held, rewritten, Rewrites}
 
@@ -239,12 +244,21 @@ pub record SameList (f g : List ℕ) (told : List ℕ → List ℕ) (names : Lis
   pub answer : (d v w : List ℕ) (a b : Listed) → Lists f (told f) d v a → Lists g (told g) d w b → (b ≡ a) × (w ≡ v)
   pub bytes : names g (told g) ≡ names f (told f)
 
+-- the views of f and of g with one layout: the same answers, whatever text is lent, and the same bytes handed back
+pub record SameView (f g : List ℕ) (l : Layout) : Type 0 where
+  pub answer : (q : Code.Question) (a b : Told.Answer) → Asked f l q a → Asked g l q b → (lent : List ℕ) → answerBy lent b ≡ answerBy lent a
+  pub text : (q : Code.Question) → textOf g l q ≡ textOf f l q
+  pub long : (i j : ℕ) → longOf g l i j ≡ longOf f l i j
+  pub words : (t : List ℕ) (i j : ℕ) → wordsOf g t l i j ≡ wordsOf f t l i j
+
 pub record Demand3 : Type 0 where
   -- verdict and layout; dataset
   pub checked : (f g : List ℕ) (c : Checked) → Accepted f c → DifferInDead f g → (b : Checked) → Checks g b → b ≡ c
   pub dataset : (f g : List ℕ) (c : Checked) → Accepted f c → DifferInDead f g → datasetOf g ≡ datasetOf f
   -- answers
   pub asked : (f g : List ℕ) (c : Checked) → Accepted f c → DifferInDead f g → (q : Question) → SameAnswer f g (layoutBy (c .layout)) q
+  -- answers of the view
+  pub viewed : (f g : List ℕ) (c : Checked) → Accepted f c → DifferInDead f g → SameView f g (layoutBy (c .layout))
   -- lists: of long strings, of label sets
   pub longs : (f g : List ℕ) (c : Checked) → Accepted f c → DifferInDead f g → SameList f g longsOf longsShown
   pub sets : (f g : List ℕ) (c : Checked) → Accepted f c → DifferInDead f g → SameList f g setsOf setsShown

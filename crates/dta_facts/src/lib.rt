@@ -74,7 +74,7 @@ fn asked(file: &[u8], layout: &[u64], q: u64, i: u64, j: u64) -> Answer
     if 15 < q {
         return Answer::Refused(16);
     }
-    asking::ask(file, layout_in(layout), question_of(q, i, j))
+    view::asked(file, layout_in(layout), question_of(q, i, j))
 }
 
 // The refusal's number of an answer, 0 where it is none.

@@ -17,14 +17,14 @@ layout-in-requires c κs = search needs
 question-of-requires : tie.Need-question-of-requires
 question-of-requires c κs = search needs
 
-ask-requires : tie.Need-ask-requires
-ask-requires c κs = search needs
+asked-requires : tie.Need-asked-requires
+asked-requires c κs = search needs
 
 returns-2 : tie.Need-returns-2
 returns-2 c =
     let a = c .before .before .before .before .before .before .args in
-    asked-some (a .file .now) (a .layout .now) (a .q) (a .i) (a .j) (answerBy [] (c .ask .result)) (c .before .before .before .if1 .left) (c .ask .ensures [] ∙ asked-of (a .file .now) (c .before .before .layout-in .ensures) (c .before .question-of .ensures))
+    asked-some (a .file .now) (a .layout .now) (a .q) (a .i) (a .j) (answerBy [] (c .asked .result)) (c .before .before .before .if1 .left) (c .asked .ensures [] ∙ asked-of (a .file .now) (c .before .before .layout-in .ensures) (c .before .question-of .ensures))
 
 pub asked-spec : {M : Type 1} → statement M
 asked-spec =
-    tie.close (tie.spec returns layout-in-requires question-of-requires ask-requires returns-2)
+    tie.close (tie.spec returns layout-in-requires question-of-requires asked-requires returns-2)
