@@ -32,9 +32,12 @@ fn told(given: Vec<OsString>) -> Result<End, End> {
         for size in [size, size / 2] {
             heading(output)?;
             for (name, make) in made::ORDINARY {
-                let costs = costs(make(size));
-                costs.line(name, output)?;
-                worst = worst.most(&costs);
+                let cost = costs(make(size));
+                cost.line(name, output)?;
+                worst = worst.most(&cost);
+            }
+            for (name, make) in made::MIXES {
+                costs(make(size)).line(name, output)?;
             }
         }
         writeln!(

@@ -14,6 +14,13 @@ pub const ORDINARY: [(&str, OfSize); 4] = [
     ("labels", labels),
 ];
 
+/// Other mixes of numbers: what turning their bytes costs depends on how many of one width stand beside each other.
+pub const MIXES: [(&str, OfSize); 3] = [
+    ("numbers, no two alike", no_two_alike),
+    ("numbers, three alike", threes),
+    ("ints and bytes in turn", ints_and_bytes),
+];
+
 /// Files that would be slow where work is done more than once for a byte.
 pub const HOSTILE: [(&str, Fixed); 3] = [
     ("65,536 labels on one text", one_text),
@@ -137,19 +144,41 @@ impl Numbers {
 }
 
 fn numbers(size: usize) -> Vec<u8> {
-    let types = [BYTE, INT, LONG, FLOAT, DOUBLE].repeat(4);
+    numeric(size, &[BYTE, INT, LONG, FLOAT, DOUBLE])
+}
+
+fn no_two_alike(size: usize) -> Vec<u8> {
+    numeric(size, &[BYTE, INT, LONG, DOUBLE])
+}
+
+fn threes(size: usize) -> Vec<u8> {
+    numeric(
+        size,
+        &[LONG, FLOAT, LONG, DOUBLE, DOUBLE, DOUBLE, INT, INT, INT],
+    )
+}
+
+fn ints_and_bytes(size: usize) -> Vec<u8> {
+    numeric(size, &[INT, BYTE])
+}
+
+/// Rows of these types, four times.
+fn numeric(size: usize, types: &[u16]) -> Vec<u8> {
+    let types = types.repeat(4);
     let n = size / row_width(&types);
-    let mut made = Made::new(types, n);
+    let mut made = Made::new(types.clone(), n);
     let mut next = Numbers(1);
     made.data = Vec::with_capacity(size);
     for _ in 0..n {
-        for _ in 0..4 {
-            made.data.push((next.next() % 128) as u8);
-            made.data
-                .extend((next.next() as u16 % 32_000).to_le_bytes());
-            made.data.extend((next.next() as u32).to_le_bytes());
-            made.data.extend((next.next() as f32 / 7.0).to_le_bytes());
-            made.data.extend((next.next() as f64 / 7.0).to_le_bytes());
+        for of in &types {
+            let number = next.next();
+            match *of {
+                BYTE => made.data.push((number % 128) as u8),
+                INT => made.data.extend((number as u16 % 32_000).to_le_bytes()),
+                LONG => made.data.extend((number as u32).to_le_bytes()),
+                FLOAT => made.data.extend((number as f32 / 7.0).to_le_bytes()),
+                _ => made.data.extend((number as f64 / 7.0).to_le_bytes()),
+            }
         }
     }
     made.file()
