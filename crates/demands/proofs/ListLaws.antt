@@ -1,4 +1,5 @@
--- The lists of long strings and of label sets: what their numbers name, in an accepted file and in one that differs from it in dead bytes only.
+-- The lists of long strings, of label sets and of the sort order: their numbers, and what these name, in an accepted file and in one that differs
+-- from it in dead bytes only.
 use mathlib.Core.Path.{_≡_, refl, sym, ap, _∙_, subst}
 use Prim.Native.Nat.{ℕ, zero, suc, _+_, _*_, _<_}
 use native.Mathlib.Nat.{zero-add}
@@ -34,7 +35,8 @@ use Rattle.long_list.specs.declared.Listed.{Listed}
 use Rattle.long_list.specs.Lists.{Lists}
 use Rattle.long_list.specs.Longs.{longsFrom, longsOf}
 use Rattle.set_list.specs.Sets.{entriesTo, entryNumbers, setsFrom, setsOf, namePlace, tablePlace}
-use Rattle.demands.specs.Demands.{longsShown, threesShown, setsShown, labelsTo, blockTexts, ListsGiven, SameList}
+use Rattle.sort_order.specs.Sorted.{sortedOf}
+use Rattle.demands.specs.Demands.{longsShown, threesShown, setsShown, labelsTo, blockTexts, ListsGiven, SameNumbers, SameList}
 
 -- ---- the answer, for files of one verdict and one list
 
@@ -158,11 +160,21 @@ module _ (f : List ℕ) (u : Bytes f) (h : verdict f ≡ 0) where
         λ i. setsFrom (edition (alike .release i) .tagged) (alike .order i) (edition (alike .release i) .nameWidth) (same-content 11 n-value-labels i)
         (alike .says i .0 .labelBlocks)
 
+    same-sorted : sortedOf g ≡ sortedOf f
+    unfolding sortedOf
+    same-sorted = λ i. alike .says i .0 .sorted
+
+    same-numbers : (told : List ℕ → List ℕ) → told g ≡ told f → SameNumbers f g told
+    same-numbers told t = same-lists (alike .accepted ∙ sym h) t
+
     same-list : (told : List ℕ → List ℕ) (names : List ℕ → List ℕ → List (List ℕ)) → told g ≡ told f → names g (told f) ≡ names f (told f) → SameList f g told names
-    same-list told names t n = record { answer = same-lists (alike .accepted ∙ sym h) t; bytes = ap (names g) t ∙ n }
+    same-list told names t n = record { answer = same-numbers told t; bytes = ap (names g) t ∙ n }
 
     pub same-long-list : SameList f g longsOf longsShown
     same-long-list = same-list longsOf longsShown same-longs (longs-shown f u h g fits-too ∙ sym (lists-given .longs))
 
     pub same-set-list : SameList f g setsOf setsShown
     same-set-list = same-list setsOf setsShown same-sets (sets-shown f u h g fits-too ∙ sym (lists-given .sets))
+
+    pub same-sort-order : SameNumbers f g sortedOf
+    same-sort-order = same-numbers sortedOf same-sorted

@@ -25,7 +25,7 @@ use Rattle.demands.proofs.CheckLaws.{check-given}
 use Rattle.demands.proofs.AskLaws.{ask-given}
 use Rattle.demands.proofs.LabelLaws.{words-given}
 use Rattle.demands.proofs.RewriteLaws.{rewrite-given, done-take, offered-edition, offered-order, all-offered, same-rewrite}
-use Rattle.demands.proofs.ListLaws.{lists-given, same-long-list, same-set-list}
+use Rattle.demands.proofs.ListLaws.{lists-given, same-long-list, same-set-list, same-sort-order}
 
 pub demand-1 : Demand1
 demand-1 = record { checked = check-given; asked = ask-given; rewrote = rewrite-given }
@@ -142,5 +142,6 @@ demand-3 =
       viewed = same-view;
       longs = λ f g c A D. same-long-list f (A .is-file) (ok f c A) g (D .long) (same f g c A D);
       sets = λ f g c A D. same-set-list f (A .is-file) (ok f c A) g (D .long) (same f g c A D);
+      sorted = λ f g c A D. same-sort-order f (A .is-file) (ok f c A) g (D .long) (same f g c A D);
       rewrote = λ f g c A D e o. same-rewrite f g (alike f g c A D .accepted ∙ sym (ok f c A)) (alike f g c A D .dataset) e o;
     }

@@ -3,9 +3,9 @@
 -- A file is any list of bytes. `Checks f r` is what `check` promises: r is its answer for the file f. `Rewrites f e o d w r` is what
 -- `rewrite` promises: r is its answer for the file f, the edition e and the byte order o, with an output that held d and then holds w. A
 -- question q over the file f and any layout l, right or wrong, is answered `answerOf f l q`: what each function that takes a layout promises,
--- for its own question. `Lists f t d w r` is what `long_list` and `set_list` promise: r is the answer for the file f, of which the numbers t are
--- told, `longsOf f` or `setsOf f`, into a slice that held d and then holds w. That each call ends is part of each function's proof, as is that it
--- needs nothing of the file, the layout and the numbers that it is given.
+-- for its own question. `Lists f t d w r` is what `long_list`, `set_list` and `sort_order` promise: r is the answer for the file f, of which the
+-- numbers t are told, `longsOf f`, `setsOf f` or `sortedOf f`, into a slice that held d and then holds w. That each call ends is part of each
+-- function's proof, as is that it needs nothing of the file, the layout and the numbers that it is given.
 use mathlib.Core.Path.{_≡_}
 use Prim.Native.Nat.{ℕ, zero, suc, _+_, _≤_, _<_}
 use mathlib.Core.List.{List, [], _∷_, _++_, map}
@@ -33,6 +33,7 @@ use Rattle.long_list.specs.declared.Listed.{Listed}
 use Rattle.long_list.specs.Lists.{Lists}
 use Rattle.long_list.specs.Longs.{longsOf}
 use Rattle.set_list.specs.Sets.{setsOf}
+use Rattle.sort_order.specs.Sorted.{sortedOf}
 use Rattle.asking.specs.declared.Question as Code
 use Rattle.asking.specs.declared.Answer as Told
 use Rattle.asking.specs.Asking.{answerBy, Asked}
@@ -238,10 +239,13 @@ pub record SameAnswer (f g : List ℕ) (l : Layout) (q : Question) : Type 0 wher
   pub answer : answerOf g l q ≡ answerOf f l q
   pub bytes : shown g (answerOf g l q) ≡ shown f (answerOf f l q)
 
--- a list of numbers, told of f and of g, and the bytes that they name: the same answer, into slices that held the same before, of any length,
--- and the same bytes
+-- a list of numbers, told of f and of g: the same answer and the same numbers, into slices that held the same before, of any length
+abbrev pub SameNumbers : List ℕ → List ℕ → (List ℕ → List ℕ) → Type 0
+SameNumbers f g told = (d v w : List ℕ) (a b : Listed) → Lists f (told f) d v a → Lists g (told g) d w b → (b ≡ a) × (w ≡ v)
+
+-- and the same bytes, where the numbers name some
 pub record SameList (f g : List ℕ) (told : List ℕ → List ℕ) (names : List ℕ → List ℕ → List (List ℕ)) : Type 0 where
-  pub answer : (d v w : List ℕ) (a b : Listed) → Lists f (told f) d v a → Lists g (told g) d w b → (b ≡ a) × (w ≡ v)
+  pub answer : SameNumbers f g told
   pub bytes : names g (told g) ≡ names f (told f)
 
 -- the views of f and of g with one layout: the same answers, whatever text is lent, and the same bytes handed back
@@ -259,9 +263,10 @@ pub record Demand3 : Type 0 where
   pub asked : (f g : List ℕ) (c : Checked) → Accepted f c → DifferInDead f g → (q : Question) → SameAnswer f g (layoutBy (c .layout)) q
   -- answers of the view
   pub viewed : (f g : List ℕ) (c : Checked) → Accepted f c → DifferInDead f g → SameView f g (layoutBy (c .layout))
-  -- lists: of long strings, of label sets
+  -- lists: of long strings, of label sets, and of the variables in sort order, which names no bytes
   pub longs : (f g : List ℕ) (c : Checked) → Accepted f c → DifferInDead f g → SameList f g longsOf longsShown
   pub sets : (f g : List ℕ) (c : Checked) → Accepted f c → DifferInDead f g → SameList f g setsOf setsShown
+  pub sorted : (f g : List ℕ) (c : Checked) → Accepted f c → DifferInDead f g → SameNumbers f g sortedOf
   -- rewritten output: into buffers that held the same before, of any length, to any target
   pub rewrote : (f g : List ℕ) (c : Checked) → Accepted f c → DifferInDead f g → (e o : ℕ) (d v w : List ℕ) (r s : Rewritten)
       → Rewrites f e o d v r → Rewrites g e o d w s → (s ≡ r) × (w ≡ v)

@@ -13,6 +13,7 @@ ghost use Rattle.asking.specs.Asking.{questionBy, answerBy};
 ghost use Rattle.coded.specs.Coded.{following, Tells};
 ghost use Rattle.long_list.specs.Longs.{longsOf};
 ghost use Rattle.set_list.specs.Sets.{setsOf};
+ghost use Rattle.sort_order.specs.Sorted.{sortedOf};
 ghost use Rattle.dta_facts.specs.Exports.{layoutIn, questionOf, askedBy, codeOf, answered, stored, countOf, listed};
 
 // The layout of eighteen numbers; all zeros where there are fewer.
@@ -179,4 +180,14 @@ pub extern "C" fn dta_set_list(file: &[u8], list: &mut [u64], count: &mut [u64])
     let sets = set_list::set_list(file, &mut list[..]);
     put_first(&mut count[..], sets.count);
     sets.code
+}
+
+// The verdict on a file; and the numbers of the variables by which an accepted one is sorted, in that order. Otherwise as `dta_long_list`.
+#[no_mangle]
+pub extern "C" fn dta_sort_order(file: &[u8], list: &mut [u64], count: &mut [u64]) -> u8
+    ensures { λ r. ⌜ (r ≡ verdict (now (file .entry))) × (now (list .exit) ≡ listed (now (file .entry)) (sortedOf (now (file .entry))) (now (list .entry))) × (now (count .exit) ≡ stored (countOf (now (file .entry)) (sortedOf (now (file .entry)))) (now (count .entry))) ⌝ }
+{
+    let sorted = sort_order::sort_order(file, &mut list[..]);
+    put_first(&mut count[..], sorted.count);
+    sorted.code
 }
