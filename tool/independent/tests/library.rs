@@ -6,8 +6,10 @@
 use dta::raw;
 use independent::damage::Source;
 use independent::dataset::{dataset, Cell as Stored, Dataset};
+use independent::generate::Order;
 use independent::questions::{ask, numbers, Answer, Cell, Kind, Numbers, Question, Span};
 use independent::random::Random;
+use independent::sketch::{Sketch, X};
 use independent::{check, generate, stated, wrong};
 
 const GENERATED: u64 = 600;
@@ -342,6 +344,7 @@ fn half_a_megabyte_of_stack_is_enough() {
         assert_eq!(raw::long_list(&file, &mut lent, &mut count), 0);
         assert_eq!(raw::set_list(&file, &mut lent, &mut count), 0);
         assert!(count[0] > 3);
+        assert_eq!(raw::sort_order(&file, &mut lent, &mut count), 0);
     };
     let thread = std::thread::Builder::new().stack_size(512 * 1024);
     thread.spawn(asked).unwrap().join().unwrap();
@@ -349,8 +352,13 @@ fn half_a_megabyte_of_stack_is_enough() {
 
 // Lists.
 
-/// The numbers of a file's long strings, and of its label sets.
-fn lists(file: &[u8], dataset: &Dataset, positions: &[u64], tagged: bool) -> [Vec<u64>; 2] {
+type List = fn(&[u8], &mut [u64], &mut [u64]) -> u8;
+
+/// The library's lists: of long strings, of label sets, of the sort order.
+const LISTS: [List; 3] = [raw::long_list, raw::set_list, raw::sort_order];
+
+/// The numbers of a file's long strings, of its label sets, and of its sort order.
+fn lists(file: &[u8], dataset: &Dataset, positions: &[u64], tagged: bool) -> [Vec<u64>; 3] {
     let tag = |size: u64| if tagged { size } else { 0 };
     let mut longs = Vec::new();
     let mut at = positions[10] + tag(7);
@@ -375,51 +383,125 @@ fn lists(file: &[u8], dataset: &Dataset, positions: &[u64], tagged: bool) -> [Ve
         }
         at = text + block.text_length + tag(6);
     }
-    [longs, sets]
+    [longs, sets, dataset.sorted.clone()]
 }
 
-#[test]
-fn lists_are_those_of_the_dataset() {
-    type List = fn(&[u8], &mut [u64], &mut [u64]) -> u8;
-    let (mut long_strings, mut entries) = (0, 0);
-    for file in files() {
-        let verdict = check(&file);
+/// What is different between lists and those of the dataset over all files, with room for all numbers, for fewer and for more; else how many numbers they have.
+fn list_difference(of: [List; 3], files: &[Vec<u8>]) -> Result<[usize; 3], String> {
+    let mut counts = [0; 3];
+    for file in files {
+        let verdict = check(file);
         let due = match &verdict {
             Ok(layout) => lists(
-                &file,
-                &dataset(&file, layout),
+                file,
+                &dataset(file, layout),
                 &layout.positions,
                 layout.edition == 117,
             ),
-            Err(_) => [Vec::new(), Vec::new()],
+            Err(_) => Default::default(),
         };
         let number = verdict.err().unwrap_or(0);
-        long_strings += due[0].len();
-        entries += due[1].len();
-        for (list, due) in [raw::long_list as List, raw::set_list].into_iter().zip(due) {
+        for (at, (list, due)) in of.into_iter().zip(due).enumerate() {
+            counts[at] += due.len();
             for room in [0, due.len().saturating_sub(1), due.len(), due.len() + 3] {
                 for places in [0, 1, 2] {
                     let mut lent = vec![BEFORE; room];
                     let mut count = vec![BEFORE; places];
-                    assert_eq!(list(&file, &mut lent, &mut count), number);
+                    let code = list(file, &mut lent, &mut count);
                     let mut left = vec![BEFORE; room];
                     if due.len() <= room {
                         left[..due.len()].copy_from_slice(&due);
                     }
-                    assert_eq!(lent, left);
                     let mut counted = vec![BEFORE; places];
                     if places > 0 {
                         counted[0] = due.len() as u64;
                     }
-                    assert_eq!(count, counted);
+                    if (code, &lent, &count) != (number, &left, &counted) {
+                        return Err(format!(
+                            "list {at} in {room}: {code} {lent:x?} {count:x?}, due {number} {left:x?} {counted:x?}"
+                        ));
+                    }
                 }
             }
         }
     }
+    Ok(counts)
+}
+
+#[test]
+fn lists_are_those_of_the_dataset() {
+    let counts =
+        list_difference(LISTS, &files()).unwrap_or_else(|difference| panic!("{difference}"));
+    let [long_strings, sets, sorted] = counts;
     assert!(
-        long_strings > 1_000 && entries > 2_000,
-        "{long_strings} and {entries} numbers"
+        long_strings > 1_000 && sets > 2_000 && sorted > 500,
+        "{counts:?} numbers"
     );
+}
+
+#[test]
+fn a_file_sorted_by_all_its_variables() {
+    let file = |edition, order| {
+        let mut sketch = Sketch::new(edition, order);
+        sketch.variables = vec![X; 32_767];
+        sketch.sorted = (1..=32_767).rev().collect();
+        sketch.file()
+    };
+    let editions = [113, 114, 117].into_iter();
+    let files: Vec<Vec<u8>> = editions
+        .flat_map(|edition| [Order::Msf, Order::Lsf].map(|order| file(edition, order)))
+        .collect();
+    assert_eq!(list_difference(LISTS, &files), Ok([0, 0, 6 * 32_767]));
+}
+
+#[test]
+fn wrong_sort_orders_are_found() {
+    /// By the variables' numbers.
+    fn ascending(file: &[u8], lent: &mut [u64], count: &mut [u64]) -> u8 {
+        let code = raw::sort_order(file, lent, count);
+        if let Some(stored) = count
+            .first()
+            .and_then(|many| lent.get_mut(..*many as usize))
+        {
+            stored.sort_unstable();
+        }
+        code
+    }
+    /// As many as there is room for.
+    fn cut(file: &[u8], lent: &mut [u64], count: &mut [u64]) -> u8 {
+        let mut all = [0; 64];
+        let mut many = [0];
+        let code = raw::sort_order(file, &mut all, &mut many);
+        for (place, number) in lent.iter_mut().zip(&all[..many[0].min(64) as usize]) {
+            *place = *number;
+        }
+        count.iter_mut().take(1).for_each(|place| *place = many[0]);
+        code
+    }
+    /// The zero that ends the sort list with them.
+    fn ended(file: &[u8], lent: &mut [u64], count: &mut [u64]) -> u8 {
+        let code = raw::sort_order(file, lent, count);
+        let many = count.first().map_or(lent.len(), |many| *many as usize);
+        if let Some(past) = lent.get_mut(many) {
+            *past = 0;
+        }
+        code
+    }
+    /// A file that is refused is sorted by nothing.
+    fn accepted(file: &[u8], lent: &mut [u64], count: &mut [u64]) -> u8 {
+        raw::sort_order(file, lent, count);
+        0
+    }
+    let files = files();
+    for (name, wrong) in [
+        ("ascending", ascending as List),
+        ("cut", cut),
+        ("ended", ended),
+        ("accepted", accepted),
+    ] {
+        let of = [raw::long_list, raw::set_list, wrong];
+        assert!(list_difference(of, &files).is_err(), "{name}");
+    }
 }
 
 // The safe crate.

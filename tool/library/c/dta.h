@@ -79,10 +79,11 @@ size_t dta_cells_along(const uint8_t *file, size_t file_len, const uint64_t *lay
 size_t dta_words_down(const uint8_t *file, size_t file_len, const uint64_t *layout, size_t layout_len, uint64_t i, uint64_t j, uint64_t *answers, size_t answers_len);
 
 /* The verdict on a file, and of an accepted one the long strings, five numbers each; or the label sets: for each, place and length of its name and its number of entries,
- * and then for each entry its value, as 32 bits, and place and length of its text. How many numbers that is is stored in the first place of `count`, where it has
- * one, 0 with a refusal; a list with no room for all of them is left as it came. */
+ * and then for each entry its value, as 32 bits, and place and length of its text; or the variables by which it is sorted, in that order, K at most. How many numbers that
+ * is is stored in the first place of `count`, where it has one, 0 with a refusal; a list with no room for all of them is left as it came. */
 uint8_t dta_long_list(const uint8_t *file, size_t file_len, uint64_t *list, size_t list_len, uint64_t *count, size_t count_len);
 uint8_t dta_set_list(const uint8_t *file, size_t file_len, uint64_t *list, size_t list_len, uint64_t *count, size_t count_len);
+uint8_t dta_sort_order(const uint8_t *file, size_t file_len, uint64_t *list, size_t list_len, uint64_t *count, size_t count_len);
 
 #ifdef __cplusplus
 }

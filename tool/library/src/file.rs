@@ -1,5 +1,5 @@
 use crate::answer::{Answer, Question, Type};
-use crate::lists::{LabelSets, LongStrings};
+use crate::lists::{list, LabelSets, LongStrings};
 use crate::many::{Column, ColumnWords, Rows};
 use crate::{raw, Cell, Refusal, Words, LONGEST};
 
@@ -173,11 +173,9 @@ impl<B: AsRef<[u8]>> File<B> {
 
     /// The variables by which the observations are sorted, in that order.
     pub fn sort_order(&self) -> Vec<u64> {
-        let mut placed: Vec<(u64, u64)> = (1..=self.variable_count())
-            .filter_map(|i| Some((self.sort_place(i).ok().filter(|place| *place > 0)?, i)))
-            .collect();
-        placed.sort_unstable();
-        placed.into_iter().map(|(_, i)| i).collect()
+        // Each is there once at most.
+        let room = self.variable_count() as usize;
+        list(self.bytes(), raw::sort_order, room)
     }
 
     // Cells. Each of these pays for the K type codes; a reader of many cells asks for a column or for rows.

@@ -6,7 +6,11 @@ use crate::raw;
 use std::collections::HashMap;
 
 /// The list that `fill` stores, in room for `room` numbers or as many more as it asks for.
-fn list(file: &[u8], fill: fn(&[u8], &mut [u64], &mut [u64]) -> u8, mut room: usize) -> Vec<u64> {
+pub(crate) fn list(
+    file: &[u8],
+    fill: fn(&[u8], &mut [u64], &mut [u64]) -> u8,
+    mut room: usize,
+) -> Vec<u64> {
     loop {
         let mut list = vec![0; room];
         let mut count = [0];

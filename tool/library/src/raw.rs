@@ -86,6 +86,14 @@ mod c {
             count: *mut u64,
             count_len: usize,
         ) -> u8;
+        pub fn dta_sort_order(
+            file: *const u8,
+            file_len: usize,
+            list: *mut u64,
+            list_len: usize,
+            count: *mut u64,
+            count_len: usize,
+        ) -> u8;
     }
 }
 
@@ -199,6 +207,20 @@ pub fn long_list(file: &[u8], list: &mut [u64], count: &mut [u64]) -> u8 {
 pub fn set_list(file: &[u8], list: &mut [u64], count: &mut [u64]) -> u8 {
     unsafe {
         c::dta_set_list(
+            file.as_ptr(),
+            file.len(),
+            list.as_mut_ptr(),
+            list.len(),
+            count.as_mut_ptr(),
+            count.len(),
+        )
+    }
+}
+
+/// The verdict on a file; and the numbers of the variables by which an accepted one is sorted, in that order. Otherwise as `long_list`.
+pub fn sort_order(file: &[u8], list: &mut [u64], count: &mut [u64]) -> u8 {
+    unsafe {
+        c::dta_sort_order(
             file.as_ptr(),
             file.len(),
             list.as_mut_ptr(),
