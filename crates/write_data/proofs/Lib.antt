@@ -4,3 +4,4 @@ pub mod CellLaws
 pub mod PlanLaws
 pub mod RowLaws
 pub mod WordLaws
+pub mod BlockLaws

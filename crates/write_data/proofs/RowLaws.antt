@@ -2,8 +2,8 @@
 use mathlib.Core.Path.{_≡_, refl, sym, ap, _∙_}
 use mathlib.Core.List.{List, [], _∷_, _++_}
 use mathlib.Core.Bool.{true, not}
-use Prim.Native.Nat.{ℕ, zero, suc, _+_, _-_, _*_, _≤_, _<_}
-use native.Mathlib.Nat.{add-zero, zero-add, mul-zero, mul-suc, mul-comm, mul-assoc, one-mul, mul-le-mul-right}
+use Prim.Native.Nat.{ℕ, zero, suc, _+_, _-_, _*_, _≤_}
+use native.Mathlib.Nat.{add-zero, zero-add, mul-zero, mul-suc, mul-comm, mul-assoc, one-mul, add-mul, mul-le-mul-right}
 use native.Mathlib.Omega.{arith}
 use native.Mathlib.Numerals.{add-one}
 use borrow.Rule.Slice.PartMut.{putMid}
@@ -19,13 +19,14 @@ use Rattle.format.proofs.Good.{and-left, and-right}
 use Rattle.format.proofs.DataLaws.{cell-good}
 use Rattle.format.proofs.WriteLaws.{fill-append, fill-length}
 use Rattle.data.proofs.PlaceLaws.{off-small, width-is, rows-next, row-in}
-use Rattle.text.proofs.Lay.{Laid}
+use Rattle.text.proofs.Lay.{Laid, laid-part, laid-as}
 use Rattle.writing.specs.Writes.{Puts}
 use Rattle.write_data.specs.declared.Source.{Source}
 use Rattle.write_data.specs.declared.Forms.{Forms}
 use Rattle.write_data.specs.Rows.{from, to, putTimes, Eights, rowSpan, typesOf, Sourced, rowBytes, rowsBytes}
 use Rattle.write_data.specs.Runs.{runStep, runSize, runBytes, kindAt, countAt, runsSize, runsBytes, oneRun, Planned}
-use Rattle.write_data.proofs.PutLaws.{laid-start, laid-times, laid-end, times-more, times-length}
+use Rattle.write_data.specs.Blocks.{blockBytes}
+use Rattle.write_data.proofs.PutLaws.{laid-start, laid-end, times-split, times-more, times-length}
 use Rattle.write_data.proofs.RunLaws.{count-size, run-join}
 
 module _ (f : List ℕ) (g : Source) (h : Forms) (F : Sourced f g) (E : Eights h) where
@@ -77,18 +78,33 @@ module _ (f : List ℕ) (g : Source) (h : Forms) (F : Sourced f g) (E : Eights h
     pub rows-start : (d : List ℕ) → Laid (firstRows 0) (0 * w) d d
     rows-start d = laid-start rowFrom rowTo w f wide (g .p) d
 
-    pub row-inside : (j : ℕ) → j < g .n → g .p + (j * w + w) ≤ length f
-    row-inside j b = let i : g .p + g .n * w ≤ length f = rw e (F .inside) in omega (arith, row-in j (g .n) w b)
+    -- the next block of m rows, after j
+    module _ (t : List ℕ) (r j m : ℕ) (b : j + m ≤ g .n) (P : Planned f g h t r) where
+      abbrev q : ℕ
+      q = g .p + j * w
 
-    pub rows-more : (t : List ℕ) (r j : ℕ) → j < g .n → Planned f g h t r → {d u : List ℕ} → Laid (firstRows j) (j * w) d u → (p : List ℕ)
-        → p ≡ runsBytes t h r f (g .p + j * w) ++ drop (runsSize t r) (take (length u - j * w) (drop (j * w) u)) → g .n * w ≤ length d
-        → Laid (firstRows (j + 1)) ((j + 1) * w) d (putMid (j * w) (length u - j * w) u p)
-    unfolding rowBytes
-    rows-more t r j b P {d} {u} l p x room =
-        let i : g .p + j * w + rowSpan f g ≤ length f = rw (sym e) (omega (arith, row-inside j b)) in
-        laid-times rowFrom rowTo w f wide (λ y. row-long y ∙ sym e) (g .p) j l p
-        (x ∙ (λ k. P .bytes (g .p + j * w) i k ++ drop ((P .size ∙ sym e) k) (take (length u - j * w) (drop (j * w) u))))
-        (omega (arith, row-in j (g .n) w b))
+      pub block-inside : q + m * w ≤ length f
+      block-inside =
+          let i : g .p + g .n * w ≤ length f = rw e (F .inside) in
+          omega (arith, add-mul j m w, mul-le-mul-right {m = j + m} {n = g .n} w b)
+
+      pub block-room : (d : List ℕ) → g .n * w ≤ length d → j * w + m * w ≤ length d
+      block-room d room = omega (arith, add-mul j m w, mul-le-mul-right {m = j + m} {n = g .n} w b)
+
+      block-rows : (k : ℕ) → k ≤ m → blockBytes t h r f q w k ≡ putTimes rowFrom rowTo k f q
+      unfolding rowBytes blockBytes
+      block-rows zero z = refl
+      block-rows (suc k) z =
+          let i : q + k * w + rowSpan f g ≤ length f = rw (sym e) (omega (arith, block-inside, row-in k m w z)) in
+          (λ x. block-rows k (omega arith) x ++ P .bytes (q + k * w) i x) ∙ times-more rowFrom rowTo w f wide k q ∙ ap (λ (x : ℕ). putTimes rowFrom rowTo x f q) (add-one k)
+
+      pub rows-block : {d u : List ℕ} → Laid (firstRows j) (j * w) d u → (p : List ℕ) → p ≡ blockBytes t h r f q w m ++ drop (m * w) (take (length u - j * w) (drop (j * w) u))
+          → g .n * w ≤ length d → Laid (firstRows (j + m)) ((j + m) * w) d (putMid (j * w) (length u - j * w) u p)
+      rows-block {d} {u} l p x room =
+          let is = block-rows m (omega arith) in
+          laid-as (laid-part l (blockBytes t h r f q w m) p (m * w) (ap length is ∙ times-length rowFrom rowTo w f wide (λ y. row-long y ∙ sym e) m q) (block-room d room) x)
+          (ap (λ (y : List ℕ). firstRows j ++ y) is ∙ sym (times-split rowFrom rowTo w f wide j m (g .p)))
+          (sym (add-mul j m w))
 
     pub rows-end : (j : ℕ) {d u : List ℕ} → Laid (firstRows j) (j * w) d u → j ≡ g .n → u ≡ rowsBytes f g h ++ drop (g .n * w) d
     unfolding rowsBytes

@@ -1,5 +1,5 @@
 -- Runs: their sizes, runs that join, and tables of runs.
-use mathlib.Core.Path.{_≡_, refl, sym, ap, _∙_, subst}
+use mathlib.Core.Path.{_≡_, refl, sym, ap, _∙_}
 use mathlib.Core.List.{List, [], _∷_, _++_, append-assoc}
 use mathlib.Core.Bool.{Bool, true, false, cond, not, _&&_}
 use Prim.Native.Nat.{ℕ, zero, suc, _+_, _-_, _*_, _/_, _%_, _≤_, _<_}
@@ -12,16 +12,16 @@ use lib.Dec.{eqb, leb}
 use borrow.Author.Tests.{eqb-true, eqb-false, leb-true, leb-false, not-true}
 use Rattle.format.specs.Slot.{fill}
 use Rattle.format.specs.Number.{Order, msf, lsf, orderBy, num, numSlots}
-use Rattle.format.specs.Grammar.{number, fixed, textSlots, textAt}
+use Rattle.format.specs.Grammar.{number, fixed, textAt}
 use Rattle.format.specs.Variables.{strLType}
 use Rattle.format.proofs.Good.{fixed-good, and-left, and-right}
 use Rattle.format.proofs.DataLaws.{cell-good}
 use Rattle.format.proofs.WriteLaws.{fill-length, fill-append}
-use Rattle.text.proofs.Lay.{Laid, laid-first, laid-part, laid-as}
+use Rattle.text.proofs.Lay.{laid-first, laid-part, laid-as}
 use borrow.Rule.Slice.PartMut.{putMid}
 use Rattle.write_data.specs.declared.Forms.{Forms}
 use Rattle.write_data.specs.Rows.{from, to, putTimes, Eights}
-use Rattle.write_data.specs.Runs.{runStep, runSize, runBytes, kindAt, countAt, Entered, runsSize, runsBytes, joins, Added}
+use Rattle.write_data.specs.Runs.{runStep, runSize, runBytes, kindAt, countAt, runsSize, runsBytes, joins, Added}
 use Rattle.write_data.proofs.PutLaws.{times-split, times-length, number-long}
 
 -- ---- sizes
@@ -99,28 +99,6 @@ module _ (h : Forms) (E : Eights h) (f : List ℕ) where
 pub run-as : (h : Forms) (s k c : ℕ) (f : List ℕ) (q : ℕ) (d u : List ℕ) → s ≡ k → u ≡ runBytes h k c f q ++ drop (runSize k c) d
     → u ≡ runBytes h s c f q ++ drop (runSize s c) d
 run-as h s k c f q d u e x = rw e x
-
--- the entry is known
-pub entry-as : (h : Forms) (e k : ℕ) (f : List ℕ) (q : ℕ) (d u : List ℕ) (r : ℕ) → e ≡ k → Entered h k f q d u r → Entered h e f q d u r
-entry-as h e k f q d u r g x = subst (λ (y : ℕ). Entered h y f q d u r) (sym g) x
-
--- the entry is a text's
-pub text-size : (s c : ℕ) → s ≡ 0 → runSize s c ≡ c
-unfolding runStep
-text-size s c e = rw e (mul-one c)
-
-pub text-entered : (h : Forms) (e : ℕ) (f : List ℕ) (q : ℕ) (d u : List ℕ) → e % 16 ≡ 0
-    → u ≡ fill (textSlots (e / 16) (textAt (e / 16) f q)) ++ drop (e / 16) d → Entered h e f q d u (e / 16)
-unfolding runBytes
-text-entered h e f q d u z x =
-    let n = text-size (e % 16) (e / 16) z in
-    record { is = x ∙ (λ i. runBytes h (z' i) (e / 16) f q ++ drop (n' i) d); size = sym n }
-  where
-    z' : 0 ≡ e % 16
-    z' = sym z
-
-    n' : e / 16 ≡ runSize (e % 16) (e / 16)
-    n' = sym (text-size (e % 16) (e / 16) z)
 
 -- a kind of steps of 1
 pub one-step : (t : List ℕ) (c : ℕ) (d u : List ℕ) → u ≡ t ++ drop c d → u ≡ t ++ drop (c * 1) d
@@ -245,28 +223,6 @@ count-small s c z h = omega (arith, count-size s c)
 pub entry-small : (t : List ℕ) (i r s c : ℕ) → i < r → runsSize t r + runSize s c ≤ 67108864 → getD t i 0 + c * 16 < 4294967296
 entry-small t i r s c b h = omega (arith, size-up t i r b, count-size (kindAt t i) (countAt t i), count-size s c)
 
--- ---- a turn of the loop over runs
-
-module _ (h : Forms) (E : Eights h) (f t : List ℕ) (i q a : ℕ) (e : a ≡ runsSize t i) where
-  abbrev kind : ℕ
-  kind = kindAt t i
-
-  abbrev count : ℕ
-  count = countAt t i
-
-  pub run-in : (r n : ℕ) → i < r → n + runsSize t r ≤ length f → n + (a + runSize kind count) ≤ length f
-  run-in r n b g = omega (arith, size-up t i r b)
-
-  pub run-after : (b : ℕ) → b ≡ runSize kind count → a + b ≡ runsSize t (i + 1)
-  run-after b g = rw (add-one i, g) (ap (λ (x : ℕ). x + runSize kind count) e)
-
-  pub laid-run : {d u : List ℕ} → Laid (runsBytes t h i f q) a d u → (p : List ℕ) (b : ℕ) → Entered h (getD t i 0) f (q + a) (take (length u - a) (drop a u)) p b
-      → q + a + runSize kind count ≤ length f → a + runSize kind count ≤ length d → Laid (runsBytes t h (i + 1) f q) (a + b) d (putMid a (length u - a) u p)
-  laid-run {d} {u} l p b x inside room =
-      laid-as (laid-part l (runBytes h kind count f (q + a)) p (runSize kind count) (run-length h E f kind count (q + a) inside) room (x .is))
-      (rw (add-one i) (ap (λ (y : ℕ). runsBytes t h i f q ++ runBytes h kind count f (q + y)) e))
-      (ap (λ (y : ℕ). a + y) (sym (x .size)))
-
-pub runs-end : (h : Forms) (f t : List ℕ) (i r q a : ℕ) → a ≡ runsSize t i → {d u : List ℕ} → Laid (runsBytes t h i f q) a d u → i ≡ r
-    → u ≡ runsBytes t h r f q ++ drop (runsSize t r) d
-runs-end h f t i r q a e {d} l g = rw (sym g) (l .is ∙ ap (λ (x : ℕ). runsBytes t h i f q ++ drop x d) e)
+-- the size of one run more
+pub run-after : (t : List ℕ) (i a b : ℕ) → a ≡ runsSize t i → b ≡ runSize (kindAt t i) (countAt t i) → a + b ≡ runsSize t (i + 1)
+run-after t i a b e g = rw (add-one i, g) (ap (λ (x : ℕ). x + runSize (kindAt t i) (countAt t i)) e)

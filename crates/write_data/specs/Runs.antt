@@ -62,11 +62,6 @@ runBytes h (suc (suc (suc zero))) c f q = putTimes (from h strLType) (to h strLT
 runBytes h (suc (suc (suc (suc zero)))) c f q = putTimes (number lsf 4) (number msf 4) c f q
 runBytes h (suc (suc (suc (suc (suc s))))) c f q = putTimes (number lsf 8) (number msf 8) c f q
 
--- w is the output d with what is put for the run of entry e at q laid over its beginning; r is how many bytes that has
-pub record Entered (h : Forms) (e : ℕ) (f : List ℕ) (q : ℕ) (d w : List ℕ) (r : ℕ) : Type 0 where
-  pub is : w ≡ runBytes h (e % 16) (e / 16) f q ++ drop (runSize (e % 16) (e / 16)) d
-  pub size : r ≡ runSize (e % 16) (e / 16)
-
 module _ (t : List ℕ) where
   -- the kind and the count of run i
   abbrev pub kindAt : ℕ → ℕ

@@ -2,7 +2,7 @@ use codes::Kind;
 ghost use mathlib.Core.Path.{_≡_};
 ghost use mathlib.Core.Bool.{cond};
 ghost use mathlib.Core.List.{_++_};
-ghost use Prim.Native.Nat.{_+_, _*_, _/_, _%_, _≤_, _<_};
+ghost use Prim.Native.Nat.{ℕ, _+_, _*_, _/_, _%_, _≤_, _<_};
 ghost use lib.ListN.{length, drop};
 ghost use Rattle.format.specs.Slot.{fill};
 ghost use Rattle.format.specs.Number.{msf, lsf};
@@ -10,7 +10,8 @@ ghost use Rattle.format.specs.Grammar.{number, textAt, textSlots};
 ghost use Rattle.format.specs.Variables.{strLType};
 ghost use Rattle.writing.specs.Writes.{Puts};
 ghost use Rattle.write_data.specs.Rows.{forms, from, to, putTimes, rowSpan, Sourced, Eights, rowsBytes};
-ghost use Rattle.write_data.specs.Runs.{sameOrder, keeps, halves, runKind, runStep, runSize, turned, runBytes, joins, runsSize, runsBytes, Entered, Added, Planned, oneRun};
+ghost use Rattle.write_data.specs.Runs.{sameOrder, keeps, halves, runKind, runStep, runSize, turned, runBytes, joins, runsSize, Added, Planned, oneRun};
+ghost use Rattle.write_data.specs.Blocks.{strewn, blockBytes};
 
 // Where `n` observations of `k` variables stand: the first row at `p`, the type list at `types`; whether the edition has tags, the
 // byte order, and the widths of v and o in a strL cell.
@@ -233,92 +234,115 @@ fn put_run(out: &mut [u8], f: &[u8], q: usize, s: u32, c: usize, h: Forms)
     }
 }
 
-// The run of the table's entry `e` at `q`, a text first; gives how many bytes it has.
-fn put_other(out: &mut [u8], f: &[u8], q: usize, e: u32, h: Forms) -> usize
-    requires { ⌜ (q + runSize (e % 16) (e / 16) ≤ length (now f)) × (runSize (e % 16) (e / 16) ≤ length (now out)) × Eights h ⌝ }
-    ensures { λ r. ⌜ Entered h e (now (f .entry)) q (now (out .entry)) (now (out .exit)) r ⌝ }
-{
-    let c = (e / 16) as usize;
-    if e % 16 == 0 {
-        put_field(out, f, q, c);
-        return c;
-    }
-    put_run(out, f, q, e % 16, c, h);
-    c * run_step(e % 16)
-}
+// ---- rows, by blocks: a run is put for all rows of a block before the next one is, so that what kind it is is asked once for a block
 
-// The same, with one number or two first and without a loop: they are the most frequent.
-fn put_entry(out: &mut [u8], f: &[u8], q: usize, e: u32, h: Forms) -> usize
-    requires { ⌜ (q + runSize (e % 16) (e / 16) ≤ length (now f)) × (runSize (e % 16) (e / 16) ≤ length (now out)) × Eights h ⌝ }
-    ensures { λ r. ⌜ Entered h e (now (f .entry)) q (now (out .entry)) (now (out .exit)) r ⌝ }
+// The run of kind `s` and count `c` at `a` of each of the `m` rows of `w` bytes from `q` on.
+fn put_runs(
+    out: &mut [u8],
+    f: &[u8],
+    q: usize,
+    a: usize,
+    s: u32,
+    c: usize,
+    w: usize,
+    m: usize,
+    h: Forms,
+)
+    requires { ⌜ (q + m * w ≤ length (now f)) × (m * w ≤ length (now out)) × (a + runSize s c ≤ w) × Eights h ⌝ }
+    ensures { λ _. ⌜ now (out .exit) ≡ strewn (λ (j : ℕ). runBytes h s c (now (f .entry)) (q + (j * w + a))) a w m (now (out .entry)) ⌝ }
 {
-    match e {
-        17 => {
-            text::put_bytes(out, f, q, 1);
-            1
-        }
-        33 => {
-            text::put_bytes(out, f, q, 2);
-            2
-        }
-        65 => {
-            text::put_bytes(out, f, q, 4);
-            4
-        }
-        129 => {
-            text::put_bytes(out, f, q, 8);
-            8
-        }
-        18 => {
-            put_turned(out, f, q, 2);
-            2
-        }
-        20 => {
-            put_turned(out, f, q, 4);
-            4
-        }
-        24 => {
-            put_turned(out, f, q, 8);
-            8
-        }
-        34 => {
-            put_numbers(out, f, q, 2, 2);
-            4
-        }
-        36 => {
-            put_numbers(out, f, q, 2, 4);
-            8
-        }
-        40 => {
-            put_numbers(out, f, q, 2, 8);
-            16
-        }
-        _ => put_other(out, f, q, e, h),
-    }
-}
-
-// The row at `q`, by its `r` runs.
-fn put_row(out: &mut [u8], f: &[u8], t: &[u32; 32768], r: usize, q: usize, h: Forms)
-    requires { ⌜ (q + runsSize (now t) r ≤ length (now f)) × (runsSize (now t) r ≤ length (now out)) × (r ≤ 32767) × Eights h ⌝ }
-    ensures { λ _. ⌜ now (out .exit) ≡ runsBytes (now (t .entry)) h r (now (f .entry)) q ++ drop (runsSize (now (t .entry)) r) (now (out .entry)) ⌝ }
-{
-    let mut a: usize = 0;
     let mut i: usize = 0;
-    while i < r {
-        a += put_entry(&mut out[a..], f, q + a, t[i], h);
+    while i < m {
+        let b = i * w + a;
+        put_run(&mut out[b..], f, q + b, s, c, h);
         i += 1;
     }
 }
 
-// The rows, one by one, by the `r` runs of each; `w` is a row's width.
+// The same, by the table's entry `e`. Kinds are named, so that each has a loop of its own.
+fn put_many(out: &mut [u8], f: &[u8], q: usize, a: usize, e: u32, w: usize, m: usize, h: Forms)
+    requires { ⌜ (q + m * w ≤ length (now f)) × (m * w ≤ length (now out)) × (a + runSize (e % 16) (e / 16) ≤ w) × Eights h ⌝ }
+    ensures { λ _. ⌜ now (out .exit) ≡ strewn (λ (j : ℕ). runBytes h (e % 16) (e / 16) (now (f .entry)) (q + (j * w + a))) a w m (now (out .entry)) ⌝ }
+{
+    let c = (e / 16) as usize;
+    match e % 16 {
+        0 => put_runs(out, f, q, a, 0, c, w, m, h),
+        1 => put_runs(out, f, q, a, 1, c, w, m, h),
+        2 => put_runs(out, f, q, a, 2, c, w, m, h),
+        4 => put_runs(out, f, q, a, 4, c, w, m, h),
+        8 => put_runs(out, f, q, a, 8, c, w, m, h),
+        _ => put_runs(out, f, q, a, e % 16, c, w, m, h),
+    }
+}
+
+// The same, with single numbers first: they are the most frequent.
+fn put_column(out: &mut [u8], f: &[u8], q: usize, a: usize, e: u32, w: usize, m: usize, h: Forms)
+    requires { ⌜ (q + m * w ≤ length (now f)) × (m * w ≤ length (now out)) × (a + runSize (e % 16) (e / 16) ≤ w) × Eights h ⌝ }
+    ensures { λ _. ⌜ now (out .exit) ≡ strewn (λ (j : ℕ). runBytes h (e % 16) (e / 16) (now (f .entry)) (q + (j * w + a))) a w m (now (out .entry)) ⌝ }
+{
+    match e {
+        17 => put_runs(out, f, q, a, 1, 1, w, m, h),
+        18 => put_runs(out, f, q, a, 2, 1, w, m, h),
+        20 => put_runs(out, f, q, a, 4, 1, w, m, h),
+        24 => put_runs(out, f, q, a, 8, 1, w, m, h),
+        _ => put_many(out, f, q, a, e, w, m, h),
+    }
+}
+
+// How many bytes the run of the table's entry `e` has.
+fn run_size(e: u32) -> usize
+    ensures { λ r. ⌜ r ≡ runSize (e % 16) (e / 16) ⌝ }
+{
+    (e / 16) as usize * run_step(e % 16)
+}
+
+// The `m` rows of `w` bytes from `q` on, by the `r` runs of each.
+fn put_block(
+    out: &mut [u8],
+    f: &[u8],
+    t: &[u32; 32768],
+    r: usize,
+    q: usize,
+    w: usize,
+    m: usize,
+    h: Forms,
+)
+    requires { ⌜ (q + m * w ≤ length (now f)) × (m * w ≤ length (now out)) × (runsSize (now t) r ≡ w) × (r ≤ 32767) × Eights h ⌝ }
+    ensures { λ _. ⌜ now (out .exit) ≡ blockBytes (now (t .entry)) h r (now (f .entry)) q w m ++ drop (m * w) (now (out .entry)) ⌝ }
+{
+    let mut a: usize = 0;
+    let mut i: usize = 0;
+    while i < r {
+        let e = t[i];
+        put_column(&mut out[..], f, q, a, e, w, m, h);
+        a += run_size(e);
+        i += 1;
+    }
+}
+
+// How many of the `left` rows of `w` bytes make a block: about 4,096 bytes, at least a row. A block's bytes stay near while its runs are put.
+fn block_rows(w: usize, left: usize) -> usize
+    requires { ⌜ 1 ≤ left ⌝ }
+    ensures { λ r. ⌜ (1 ≤ r) × (r ≤ left) ⌝ }
+{
+    if 4096 <= w {
+        return 1;
+    }
+    let b = 4096 / (w + 1) + 1;
+    if b < left { b } else { left }
+}
+
+// The rows, block by block; `w` is a row's width.
 fn put_each(out: &mut [u8], f: &[u8], t: &[u32; 32768], r: usize, w: usize, g: Source, h: Forms)
     requires { ⌜ Sourced (now f) g × Planned (now f) g h (now t) r × (w ≡ rowSpan (now f) g) × (g .n * w ≤ length (now out)) × Eights h ⌝ }
     ensures { λ _. ⌜ now (out .exit) ≡ rowsBytes (now (f .entry)) g h ++ drop (g .n * w) (now (out .entry)) ⌝ }
 {
+    let n = g.n;
     let mut j: usize = 0;
-    while j < g.n {
-        put_row(&mut out[j * w..], f, t, r, g.p + j * w, h);
-        j += 1;
+    while j < n {
+        let m = block_rows(w, n - j);
+        put_block(&mut out[j * w..], f, t, r, g.p + j * w, w, m, h);
+        j += m;
     }
 }
 
