@@ -275,7 +275,7 @@ fn put_many(out: &mut [u8], f: &[u8], q: usize, a: usize, e: u32, w: usize, m: u
     }
 }
 
-// The same, with single numbers first: they are the most frequent.
+// The same, with one, two or three numbers first: they are the most frequent, and need no loop in a row.
 fn put_column(out: &mut [u8], f: &[u8], q: usize, a: usize, e: u32, w: usize, m: usize, h: Forms)
     requires { ⌜ (q + m * w ≤ length (now f)) × (m * w ≤ length (now out)) × (a + runSize (e % 16) (e / 16) ≤ w) × Eights h ⌝ }
     ensures { λ _. ⌜ now (out .exit) ≡ strewn (λ (j : ℕ). runBytes h (e % 16) (e / 16) (now (f .entry)) (q + (j * w + a))) a w m (now (out .entry)) ⌝ }
@@ -285,6 +285,12 @@ fn put_column(out: &mut [u8], f: &[u8], q: usize, a: usize, e: u32, w: usize, m:
         18 => put_runs(out, f, q, a, 2, 1, w, m, h),
         20 => put_runs(out, f, q, a, 4, 1, w, m, h),
         24 => put_runs(out, f, q, a, 8, 1, w, m, h),
+        34 => put_runs(out, f, q, a, 2, 2, w, m, h),
+        36 => put_runs(out, f, q, a, 4, 2, w, m, h),
+        40 => put_runs(out, f, q, a, 8, 2, w, m, h),
+        50 => put_runs(out, f, q, a, 2, 3, w, m, h),
+        52 => put_runs(out, f, q, a, 4, 3, w, m, h),
+        56 => put_runs(out, f, q, a, 8, 3, w, m, h),
         _ => put_many(out, f, q, a, e, w, m, h),
     }
 }
