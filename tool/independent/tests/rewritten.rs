@@ -618,6 +618,88 @@ fn large_files(rewrite: &Rewrite) -> Compared {
     Ok(())
 }
 
+/// Rows are written in blocks of about so many bytes.
+const BLOCK: u64 = 4_096;
+
+/// Rows of any mix of types, up to four of one type beside each other, some wider than a block; in numbers about those that make one or more blocks.
+fn rows(random: &mut Random) -> Dataset {
+    let mut types = Vec::new();
+    for _ in 0..random.between(1, 7) {
+        let texts = [1, 3, 31, 32, 90].map(Type::Text);
+        let of = match random.once_in(4) {
+            true => random.pick(&texts),
+            false => random.pick(&[Type::Byte, Type::Int, Type::Long, Type::Float, Type::Double]),
+        };
+        types.extend(std::iter::repeat_n(of, random.between(1, 4)));
+    }
+    if random.once_in(6) {
+        let width = random.between(1, 244) as u64;
+        let wide = std::iter::repeat_n(Type::Text(width), (BLOCK / width) as usize + 1);
+        types.splice(0..0, wide);
+    }
+    let like = one(Type::Byte).variables.remove(0);
+    let variables: Vec<Variable> = types
+        .iter()
+        .map(|of| Variable {
+            of: *of,
+            ..like.clone()
+        })
+        .collect();
+    let row: u64 = types.iter().map(|of| of.width()).sum();
+    let block = BLOCK / (row + 1) + 1;
+    let n = random
+        .pick(&[1, block - 1, block, block + 1, 2 * block, 3 * block + 1])
+        .max(1);
+    let mut cells = Vec::new();
+    for of in types.iter().cycle().take(n as usize * types.len()) {
+        cells.push(match of {
+            Type::Text(width) => {
+                let length = random.below(*width as usize + 1);
+                Cell::Text(random.text(length))
+            }
+            of => Cell::Bits(random.number() >> (64 - 8 * of.width())),
+        });
+    }
+    Dataset {
+        n,
+        variables,
+        cells,
+        ..one(Type::Byte)
+    }
+}
+
+fn blocks_of_rows(rewrite: &Rewrite) -> Compared {
+    let comparison = &mut Comparison::new(rewrite, 0);
+    for seed in 0..300 {
+        let random = &mut Random::new(seed);
+        let order = random.pick(&[Order::Msf, Order::Lsf]);
+        let file = write(&rows(random), target(random.pick(&[113, 114, 117]), order));
+        let compared = comparison.file(&file);
+        compared.map_err(|difference| format!("rows of seed {seed}: {difference}"))?;
+    }
+    Ok(())
+}
+
+/// One byte wrong in the last row of a block, and in the first of the next.
+#[test]
+fn a_wrong_block_is_found() {
+    for after in [0, 1] {
+        let wrong = move |file: &[u8], edition: u64, order: u64, out: &mut [u8]| {
+            let (number, length) = stand_in::right(file, edition, order, out);
+            if let (0, Ok(layout)) = (number, check(&out[..length as usize])) {
+                let row = outline(&out[..length as usize], &layout).row();
+                let place = BLOCK / (row + 1) + after;
+                if row > 0 && place < u64::from(layout.n) {
+                    let data = layout.positions[9] + if layout.edition == 117 { 6 } else { 0 };
+                    out[(data + place * row) as usize] ^= 1;
+                }
+            }
+            (number, length)
+        };
+        assert!(blocks_of_rows(&wrong).is_err(), "{after}");
+    }
+}
+
 #[test]
 fn a_wrong_length_bound_is_found() {
     // None, one less, one more.
@@ -646,6 +728,7 @@ fn file_length(dataset: &Dataset, target: Target) -> u64 {
 fn bounds_of_the_stand_in() {
     assert_eq!(length_bound(&stand_in::right), Ok(()));
     assert_eq!(large_files(&stand_in::right), Ok(()));
+    assert_eq!(blocks_of_rows(&stand_in::right), Ok(()));
 }
 
 // The proved library alone.
@@ -658,6 +741,7 @@ mod library {
     fn bounds_of_the_proved_library() {
         assert_eq!(length_bound(&rewrite), Ok(()));
         assert_eq!(large_files(&rewrite), Ok(()));
+        assert_eq!(blocks_of_rows(&rewrite), Ok(()));
     }
 
     #[test]
