@@ -1,2 +1,3 @@
 pub mod Held
 pub mod Thin
+pub mod Made

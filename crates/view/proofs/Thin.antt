@@ -22,9 +22,9 @@ use sound.WpLaws.{FmC, fmOf, WpFn-mono}
 use denote.RattleType.{RattleType, owns}
 use denote.Laws.{Is, Tells, Makes, shows}
 use denote.Builtin.{u8}
-use denote.Ref.{RefT}
+use denote.Ref.{RefT, now}
 use denote.Signature.{plain, shrSliceOf, namedLft}
-use denote.Slice.{ShrSlice}
+use denote.Slice.{ShrSlice, shr-slice-lawful}
 use denote.Steps.{owned, peeks, heard, nothing}
 use denote.Enum.Laws as EL
 use denote.Struct.Laws as LL
@@ -35,8 +35,15 @@ use denote.Triple.Spec.{Meets, tripleOf}
 use denote.Triple.Walked.{says, Stays, stay-none, walkOf, goes-none, ends-at, walked, walk-meets}
 use denote.Exit.{yes, Last, left}
 use denote.Triple.Clauses.{Ended, Clauses, closing, ensured, lasts}
+use Rattle.asking.specs.Asking.{Asked}
+use Rattle.asking.specs.declared.Question.{Question}
+use Rattle.asking.specs.declared.Answer.{Answer}
 use Rattle.asking.proofs.Question as Q
 use Rattle.asking.proofs.Question.Laws as Q′
+use Rattle.asking.proofs.Answer as S
+use Rattle.asking.proofs.Answer.Laws as S′
+use Rattle.checking.specs.Checks.{layoutBy}
+use Rattle.parts.specs.Parts.{textOf}
 use Rattle.checking.specs.declared.Layout.{Layout}
 use Rattle.checking.proofs.Layout as Y
 use Rattle.checking.proofs.Layout.Laws as Y′
@@ -70,6 +77,29 @@ question = record {
 pub record Result (R : Lfts 1 → RattleType) : Type 2 where
   pub ty : Ty
   pub typed : {M : Type 1} (𝓤 : URA M) (H : Heap 𝓤) (A : Atoms 𝓤) → Given 𝓤 H A → (κs : Lfts 1) (r : R κs .Denot) (u : Val) → Is (R κs) r (u ∷ []) → Holds (hasTy ty u) × WT u
+
+-- an answer is such a result, and so are bytes of the file
+abbrev pub Answers : Lfts 1 → RattleType
+Answers κs = S.the-row
+
+abbrev pub answer : Result Answers
+answer = record { ty = S′.mir; typed = λ 𝓤 H A W κs r u is. EL.lawful S.the-type S′.the-laws 𝓤 H A W tt .typed r _ is .0 }
+
+abbrev pub Bytes : Lfts 1 → RattleType
+Bytes κs = ShrSlice (named 0) (κs .0) u8
+
+abbrev pub bytes : Result Bytes
+bytes = record {
+  ty = tyStruct (38 ∷ 91 ∷ 93 ∷ []) (tcons (tyRef (named 0) imm (tyInt w8)) (tcons (tyInt w64) tnil));
+  typed = λ 𝓤 H A W κs r u is. shr-slice-lawful 𝓤 H A W (named 0) (κs .0) u8 .typed r _ is .0;
+}
+
+-- what the questions promise: an answer, and the bytes that it names
+abbrev pub Told : (κs : Lfts 1) → RefT (List ℕ) → Layout → Question → Answer → Type 0
+Told κs f l q r = Asked (now f) (layoutBy l) q r
+
+abbrev pub Shown : (κs : Lfts 1) → RefT (List ℕ) → Layout → Question → RefT (List ℕ) → Type 0
+Shown κs f l q r = now r ≡ textOf (now f) (layoutBy l) q
 
 module _ (X : RattleType) (P : Param X) (R : Lfts 1 → RattleType) (N : Result R) (Φ : (κs : Lfts 1) → RefT (List ℕ) → Layout → X .Denot → R κs .Denot → Type 0) where
   -- the two signatures and contracts

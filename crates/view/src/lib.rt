@@ -76,3 +76,10 @@ pub fn asked(file: &[u8], layout: Layout, q: Question) -> Answer
 {
     ask(make(file, layout), q)
 }
+
+// The bytes that the answer to a question names, by a view that is made here.
+pub fn text_asked<'a>(file: &'a [u8], layout: Layout, q: Question) -> &'a [u8]
+    ensures { λ r. ⌜ now r ≡ textOf (now (file .entry)) (layoutBy layout) q ⌝ }
+{
+    text(make(file, layout), q)
+}

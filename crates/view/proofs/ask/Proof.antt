@@ -1,44 +1,22 @@
 -- `ask` meets its contract: it is a question of one plain parameter, and calls `asking::ask`.
 -- Assumes nothing.
-use Prim.Native.Nat.{ℕ}
-use mathlib.Core.List.{List}
-use contract.Lifetimes.{Lfts}
 use contract.Running.{givenOf, tables, tablesOf}
-use denote.RattleType.{RattleType}
-use denote.Ref.{RefT, now}
-use denote.Enum.Laws as EL
 use denote.Triple.Spec.{tripleOf}
 use denote.Triple.Table.{entered, cited}
-use Rattle.checking.specs.declared.Layout.{Layout}
-use Rattle.checking.specs.Checks.{layoutBy}
-use Rattle.asking.specs.Asking.{Asked}
-use Rattle.asking.specs.declared.Question.{Question}
-use Rattle.asking.specs.declared.Answer.{Answer}
 use Rattle.asking.proofs.Question as Q
-use Rattle.asking.proofs.Answer as S
-use Rattle.asking.proofs.Answer.Laws as S′
 use Rattle.asking.proofs.ask.Symbol as callee-def
 use Rattle.asking.proofs.ask.Symbol.{name as #asking·ask}
 use Rattle.asking.proofs.ask.Met as callee-thm
-use Rattle.view.proofs.Thin.{Result, question, Callee, thin-meets}
+use Rattle.view.proofs.Thin.{question, Answers, answer, Told, Callee, thin-meets}
 use Rattle.view.proofs.ask.Key.{name as #view·ask}
 use Rattle.view.proofs.ask as own
 use Rattle.view.proofs.ask.Statement as stated
 use Rattle.view.proofs.ask.Code as code
-
-abbrev R : Lfts 1 → RattleType
-R κs = S.the-row
-
-abbrev answer : Result R
-answer = record { ty = S′.mir; typed = λ 𝓤 H A W κs r u is. EL.lawful S.the-type S′.the-laws 𝓤 H A W tt .typed r _ is .0 }
-
-abbrev Φ : (κs : Lfts 1) → RefT (List ℕ) → Layout → Question → Answer → Type 0
-Φ κs f l q r = Asked (now f) (layoutBy l) q r
 
 pub ask-spec : {M : Type 1} → stated.statement M
 unfolding code.routine tablesOf
 ask-spec 𝓤 H 𝓜 𝓖 𝓡 =
     entered 𝓤 H (tripleOf 𝓤 H (𝓖 .A) own.signature (own.spec 𝓤 H (𝓖 .A) (𝓜 .mem) (𝓡 .run)))
     (tables 𝓤 H 𝓜 𝓡 code.env .C) (tables 𝓤 H 𝓜 𝓡 code.env .Λ) #view·ask code.function (code.unfolded 𝓤 H 𝓜 𝓡)
-    (thin-meets Q.the-row question R answer Φ 𝓤 H (𝓖 .A) (givenOf 𝓤 H 𝓜 𝓖) #asking·ask (tablesOf 𝓤 H 𝓜 (tables 𝓤 H 𝓜 𝓡 code.env))
-    (cited 𝓤 H (Callee Q.the-row question R answer Φ 𝓤 H (𝓖 .A)) 𝓜 𝓡 code.env #asking·ask callee-def.routine code.calls-asking·ask (callee-thm.met 𝓤 H 𝓜 𝓖 𝓡)))
+    (thin-meets Q.the-row question Answers answer Told 𝓤 H (𝓖 .A) (givenOf 𝓤 H 𝓜 𝓖) #asking·ask (tablesOf 𝓤 H 𝓜 (tables 𝓤 H 𝓜 𝓡 code.env))
+    (cited 𝓤 H (Callee Q.the-row question Answers answer Told 𝓤 H (𝓖 .A)) 𝓜 𝓡 code.env #asking·ask callee-def.routine code.calls-asking·ask (callee-thm.met 𝓤 H 𝓜 𝓖 𝓡)))
