@@ -71,6 +71,10 @@ module _ (κ : Lft) (s : RefT (List ℕ)) (l : Layout) where
   abbrev pub Of : View → Type 0
   Of r = (r .file ≡ s) × (r .layout ≡ l)
 
+  -- so what holds of its fields holds of s and l
+  pub of-made : (r : View) (F : RefT (List ℕ) → Layout → Type 0) → Of r → F (r .file) (r .layout) → F s l
+  of-made r F e h = subst (λ (z : Layout). F s z) (e .1) (subst (λ (f : RefT (List ℕ)). F f (r .layout)) (e .0) h)
+
   module _ {M : Type 1} (𝓤 : URA M) (H : Heap 𝓤) (A : Atoms 𝓤) (W : Given 𝓤 H A) where
     -- the struct's value has the type of a local of a body
     pub local-typed : (r : View) (u : Val) → Is (B (κ, tt)) r (u ∷ []) → Holds (hasTy (T′.mir erased) u) × WT u
@@ -156,10 +160,6 @@ module _ (X : RattleType) (P : Param X) (R : Lfts 1 → RattleType) (N : Result 
     ask-said : (r : View) (t : R (κ, tt) .Denot) → ent 𝓤 (ensured 𝓤 H A held (held-clauses 𝓤) (κ, tt) (r, (i, tt)) tt t) (fact 𝓤 (Φ (κ, tt) (r .file) (r .layout) i t))
     ask-said r t = exE 𝓤 _ (λ ws. snd∗ 𝓤 (sem 𝓤 H A (lasts held (κ, tt) (r, (i, tt)) ws)) (fact 𝓤 (Φ (κ, tt) (r .file) (r .layout) i t)))
 
-    -- what is known of the result, of the slice and the layout
-    found : (r : View) (t : R (κ, tt) .Denot) → Of κ s l r → Φ (κ, tt) (r .file) (r .layout) i t → Φ (κ, tt) s l i t
-    found r t e h = subst (λ (z : Layout). Φ (κ, tt) s z i t) (e .1) (subst (λ (z : RefT (List ℕ)). Φ (κ, tt) z (r .layout) i t) (e .0) h)
-
     exits : (t : R (κ, tt) .Denot) (u : Val) → Φ (κ, tt) s l i t → ent 𝓤 (⋆ 𝓤 H A (‵ (R (κ, tt) .own t (u ∷ [])) ∷ (‵ (flft κ q) ⊛ ‵ ftrue) ∷ ‵ (Own κ s l) ∷ ‵ (Y.the-row .own l (y ∷ [])) ∷ ‵ (X .own i (x ∷ [])) ∷ [])) (Post u)
     exits t u e =
         qed W (‵ (R (κ, tt) .own t (u ∷ [])) ∷ (‵ (flft κ q) ⊛ ‵ ftrue) ∷ ‵ (Own κ s l) ∷ ‵ (Y.the-row .own l (y ∷ [])) ∷ ‵ (X .own i (x ∷ [])) ∷ []) ∵
@@ -189,7 +189,7 @@ module _ (X : RattleType) (P : Param X) (R : Lfts 1 → RattleType) (N : Result 
           returns ! (look ! 11 refl) $ forget ! 3 refl $ forget ! 5 refl $ forget ! 7 refl $ forget ! 9 refl $ forget ! 11 refl $
           move ! (11 ∷ 12 ∷ []) $ free1 ! $ move ! (9 ∷ 10 ∷ []) $ free1 ! $ move ! (7 ∷ 8 ∷ []) $ free1 ! $ move ! (5 ∷ 6 ∷ []) $ free1 ! $ move ! (3 ∷ 4 ∷ []) $ free1 ! $ free0 ! $
           owned ! X (Is X) (P .makes 𝓤 H A) i _ asks $ owned ! Y.the-row (Is Y.the-row) (LL.makes Y.the-type Y′.the-plain 𝓤 H A) l _ laid $ move ! (2 ∷ 3 ∷ 4 ∷ 0 ∷ []) $
-          by ! (exits t u′ (found r t e e′)))))))))))))))
+          by ! (exits t u′ (of-made κ s l r (λ (f : RefT (List ℕ)) (z : Layout). Φ (κ, tt) f z i t) e e′)))))))))))))))
 
   pub asked-meets : {M : Type 1} (𝓤 : URA M) (H : Heap 𝓤) (A : Atoms 𝓤) (W : Given 𝓤 H A) (m g : Name) (𝓣 : Tables 𝓤 H) → Triple 𝓤 (𝓣 .C m) (Make 𝓤 H A) → Triple 𝓤 (𝓣 .C g) (Ask 𝓤 H A)
       → Meets 𝓤 H A (own .signature) (WpFn 𝓤 H (𝓣 .C) (𝓣 .Λ) (asked m g)) (closing 𝓤 H A own (own-clauses 𝓤))

@@ -83,3 +83,17 @@ pub fn text_asked<'a>(file: &'a [u8], layout: Layout, q: Question) -> &'a [u8]
 {
     text(make(file, layout), q)
 }
+
+// The contents of the long string of cell `i`, `j`.
+pub fn long_asked<'a>(file: &'a [u8], layout: Layout, i: u64, j: u64) -> &'a [u8]
+    ensures { λ r. ⌜ now r ≡ longOf (now (file .entry)) (layoutBy layout) i j ⌝ }
+{
+    long(make(file, layout), i, j)
+}
+
+// The label words of cell `i`, `j`, or the lent plain text.
+pub fn words_asked<'a>(file: &'a [u8], plain: &'a [u8], layout: Layout, i: u64, j: u64) -> &'a [u8]
+    ensures { λ r. ⌜ now r ≡ wordsOf (now (file .entry)) (now (plain .entry)) (layoutBy layout) i j ⌝ }
+{
+    words(make(file, layout), plain, i, j)
+}
