@@ -128,6 +128,17 @@ module _ (X : RattleType) (P : Param X) (R : Lfts 1 → RattleType) (N : Result 
     abbrev pub Ask : Contract 𝓤
     Ask = tripleOf 𝓤 H A (held .signature) (closing 𝓤 H A held (held-clauses 𝓤))
 
+  -- the call of the function over the view, at the struct r with the machine value u
+  module _ {M : Type 1} (𝓤 : URA M) (H : Heap 𝓤) (A : Atoms 𝓤) (W : Given 𝓤 H A) (κ : Lft) (q : Share) (i : X .Denot) where
+    abbrev pub to-ask : View → Val → Ask 𝓤 H A .Ghost
+    to-ask r u = (((κ, tt), (q, tt), tt, (r, (i, tt)), (u ∷ [], (P .low i ∷ [], tt))), tt)
+
+    pub goes-ask : Is X i (P .low i ∷ []) → (r : View) (u : Val) → ent 𝓤 (⋆ 𝓤 H A (‵ (B (κ, tt) .own r (u ∷ [])) ∷ (‵ (flft κ q) ⊛ ‵ ftrue) ∷ [])) (Ask 𝓤 H A .pre (to-ask r u))
+    goes-ask asks r u = qed W (‵ (B (κ, tt) .own r (u ∷ [])) ∷ (‵ (flft κ q) ⊛ ‵ ftrue) ∷ []) ∵ nothing ! $ owned ! X (Is X) (P .makes 𝓤 H A) i _ asks $ fjoin ! $ move ! (1 ∷ 0 ∷ []) $ fjoin ! $ move ! (1 ∷ 0 ∷ []) $ join ! $ frame ! $ done !
+
+    pub ask-said : (r : View) (t : R (κ, tt) .Denot) → ent 𝓤 (ensured 𝓤 H A held (held-clauses 𝓤) (κ, tt) (r, (i, tt)) tt t) (fact 𝓤 (Φ (κ, tt) (r .file) (r .layout) i t))
+    ask-said r t = exE 𝓤 _ (λ ws. snd∗ 𝓤 (sem 𝓤 H A (lasts held (κ, tt) (r, (i, tt)) ws)) (fact 𝓤 (Φ (κ, tt) (r .file) (r .layout) i t)))
+
   module _ {M : Type 1} (𝓤 : URA M) (H : Heap 𝓤) (A : Atoms 𝓤) (W : Given 𝓤 H A) (κ : Lft) (q : Share) (s : RefT (List ℕ)) (l : Layout) (i : X .Denot) where
     abbrev v : Val
     v = sᵛ κ s l
@@ -150,16 +161,6 @@ module _ (X : RattleType) (P : Param X) (R : Lfts 1 → RattleType) (N : Result 
         qed W ((‵ (flft κ q) ⊛ ‵ ftrue) ∷ ‵ (owns (ShrSlice (named 0) κ u8 ∷ Y.the-row ∷ X ∷ []) (s, (l, (i, tt))) at) ∷ []) ∵
         move ! (1 ∷ []) $ fsplit ! $ move ! (1 ∷ []) $ drop ! $ by ! (goes-make κ s l 𝓤 H A W q laid)
 
-    -- the call of the function over the view, at the struct r with the machine value u
-    abbrev to-ask : View → Val → Ask 𝓤 H A .Ghost
-    to-ask r u = (((κ, tt), (q, tt), tt, (r, (i, tt)), (u ∷ [], (x ∷ [], tt))), tt)
-
-    goes-ask : Is X i (x ∷ []) → (r : View) (u : Val) → ent 𝓤 (⋆ 𝓤 H A (‵ (B (κ, tt) .own r (u ∷ [])) ∷ (‵ (flft κ q) ⊛ ‵ ftrue) ∷ [])) (Ask 𝓤 H A .pre (to-ask r u))
-    goes-ask asks r u = qed W (‵ (B (κ, tt) .own r (u ∷ [])) ∷ (‵ (flft κ q) ⊛ ‵ ftrue) ∷ []) ∵ nothing ! $ owned ! X (Is X) (P .makes 𝓤 H A) i _ asks $ fjoin ! $ move ! (1 ∷ 0 ∷ []) $ fjoin ! $ move ! (1 ∷ 0 ∷ []) $ join ! $ frame ! $ done !
-
-    ask-said : (r : View) (t : R (κ, tt) .Denot) → ent 𝓤 (ensured 𝓤 H A held (held-clauses 𝓤) (κ, tt) (r, (i, tt)) tt t) (fact 𝓤 (Φ (κ, tt) (r .file) (r .layout) i t))
-    ask-said r t = exE 𝓤 _ (λ ws. snd∗ 𝓤 (sem 𝓤 H A (lasts held (κ, tt) (r, (i, tt)) ws)) (fact 𝓤 (Φ (κ, tt) (r .file) (r .layout) i t)))
-
     exits : (t : R (κ, tt) .Denot) (u : Val) → Φ (κ, tt) s l i t → ent 𝓤 (⋆ 𝓤 H A (‵ (R (κ, tt) .own t (u ∷ [])) ∷ (‵ (flft κ q) ⊛ ‵ ftrue) ∷ ‵ (Own κ s l) ∷ ‵ (Y.the-row .own l (y ∷ [])) ∷ ‵ (X .own i (x ∷ [])) ∷ [])) (Post u)
     exits t u e =
         qed W (‵ (R (κ, tt) .own t (u ∷ [])) ∷ (‵ (flft κ q) ⊛ ‵ ftrue) ∷ ‵ (Own κ s l) ∷ ‵ (Y.the-row .own l (y ∷ [])) ∷ ‵ (X .own i (x ∷ [])) ∷ []) ∵
@@ -179,10 +180,10 @@ module _ (X : RattleType) (P : Param X) (R : Lfts 1 → RattleType) (N : Result 
           -- [what the struct owns; the token; what s owns; room for _4; …; _3; …; _2; …; _1; …; room for _0; …]
           peeks ! (B (κ, tt)) (Is (B (κ, tt))) (shows 𝓤 H A (B (κ, tt))) r (u ∷ []) (λ is.
           land ! (from ! (stop !)) (init ! 3 refl (local-typed κ s l 𝓤 H A W r u is)) $
-          use2 W (raw (Ask 𝓤 H A .pre (to-ask r u))) (goes-ask asks r u) $
-          calls-at ! fm (Ask 𝓤 H A) known-ask (to-ask r u) (and-then ! (load ! (from ! (stop !)) (look ! 2 refl)) (and-then ! (load ! (from ! (stop !)) (look ! 4 refl)) (no-more !))) (λ u′.
+          use2 W (raw (Ask 𝓤 H A .pre (to-ask 𝓤 H A W κ q i r u))) (goes-ask 𝓤 H A W κ q i asks r u) $
+          calls-at ! fm (Ask 𝓤 H A) known-ask (to-ask 𝓤 H A W κ q i r u) (and-then ! (load ! (from ! (stop !)) (look ! 2 refl)) (and-then ! (load ! (from ! (stop !)) (look ! 4 refl)) (no-more !))) (λ u′.
           use1 W (later (some (λ (t : R (κ, tt) .Denot). ((‵ (flft κ q) ⊛ ‵ ftrue) ⊛ ‵ (R (κ, tt) .own t (u′ ∷ []))) ⊛ raw (ensured 𝓤 H A held (held-clauses 𝓤) (κ, tt) (r, (i, tt)) tt t)))) (id⊢ 𝓤 _) $ await ! tt $ pick ! (λ t.
-          split ! $ move ! (1 ∷ []) $ use1 W (raw (fact 𝓤 (Φ (κ, tt) (r .file) (r .layout) i t))) (ask-said r t) $ heard ! (Φ (κ, tt) (r .file) (r .layout) i t) (λ e′. split ! $ move ! (1 ∷ []) $
+          split ! $ move ! (1 ∷ []) $ use1 W (raw (fact 𝓤 (Φ (κ, tt) (r .file) (r .layout) i t))) (ask-said 𝓤 H A W κ q i r t) $ heard ! (Φ (κ, tt) (r .file) (r .layout) i t) (λ e′. split ! $ move ! (1 ∷ []) $
           -- [the result; the token; what s owns; _4; …; _3; …; _2; …; _1; …; room for _0; …]
           peeks ! (R (κ, tt)) (Is (R (κ, tt))) (shows 𝓤 H A (R (κ, tt))) t (u′ ∷ []) (λ is′.
           land ! (from ! (stop !)) (init ! 11 refl (N .typed 𝓤 H A W (κ, tt) t u′ is′)) $

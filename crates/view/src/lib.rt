@@ -97,3 +97,10 @@ pub fn words_asked<'a>(file: &'a [u8], plain: &'a [u8], layout: Layout, i: u64, 
 {
     words(make(file, layout), plain, i, j)
 }
+
+// The answer to a question by the view of a file alone.
+pub fn checked_asked(file: &[u8], code: &mut u8, q: Question) -> Answer
+    ensures { λ r. ⌜ (now (code .exit) ≡ verdict (now (file .entry))) × Asked (now (file .entry)) (layoutOf (now (file .entry))) q r ⌝ }
+{
+    ask(checked(file, code), q)
+}
