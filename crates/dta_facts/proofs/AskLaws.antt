@@ -2,34 +2,37 @@
 use mathlib.Core.Path.{_≡_, refl, sym, ap, _∙_}
 use Prim.Native.Nat.{ℕ, _≤_, _<_}
 use mathlib.Core.List.{List, [], _∷_, _++_}
+use mathlib.Core.Bool.{cond}
 use lib.ListN.{length, drop}
+use lib.Dec.{eqb}
 use lib.IntN.{ℤ, pos, negsuc}
-use borrow.Author.Tests.{le-leb, lt-leb}
+use native.Mathlib.Omega.{arith}
+use borrow.Author.Tests.{le-leb, lt-leb, eq-eqb, ne-eqb}
 use types.Run.{OneOf, miss}
 use denote.Enum.Declared.{tagOf}
 use Rattle.format.specs.Cells.{Says, whole, single, double, letter, between, outside, words, reference}
 use Rattle.cell.specs.Cells.{says}
-use Rattle.format.specs.Dta.{Layout}
-use Rattle.questions.specs.Ask.{Question, Answer, refused, cell, answerOf}
+use Rattle.format.specs.Dta.{Layout, verdict}
+use Rattle.questions.specs.Ask.{Question, Answer, refused, cell, askWords, answerOf, shown}
 use Rattle.asking.specs.Asking.{answerBy}
 use Rattle.asking.specs.declared.Answer as Told
 use Rattle.asking.proofs.Answer.{the-type}
 use Rattle.asking.specs.declared.Answer.the-variants as A
 use Rattle.coded.specs.Coded.{numbersOf}
-use Rattle.dta_facts.specs.Exports.{layoutIn, questionOf, askedBy, codeOf, answered}
+use Rattle.dta_facts.specs.Exports.{layoutIn, questionOf, askedIn, shownBy, codeOf, fileCode, answered}
 
 -- the question of the number q, where that is k
 pub question-case : (i j : ℕ) {q k : ℕ} → q ≡ k → questionOf k i j ≡ questionOf q i j
 question-case i j e = ap (λ (x : ℕ). questionOf x i j) (sym e)
 
 -- the answer to it
-pub asked-none : (f s : List ℕ) (q i j : ℕ) → 15 < q → refused 16 ≡ askedBy f s q i j
-unfolding askedBy
-asked-none f s q i j h = rw (lt-leb q 15 h)
+pub asked-none : (f : List ℕ) (l : Layout) (q i j : ℕ) → 15 < q → refused 16 ≡ askedIn f l q i j
+unfolding askedIn
+asked-none f l q i j h = rw (lt-leb q 15 h)
 
-pub asked-some : (f s : List ℕ) (q i j : ℕ) (x : Answer) → q ≤ 15 → x ≡ answerOf f (layoutIn s) (questionOf q i j) → x ≡ askedBy f s q i j
-unfolding askedBy
-asked-some f s q i j x h e = rw (le-leb q 15 h) e
+pub asked-some : (f : List ℕ) (l : Layout) (q i j : ℕ) (x : Answer) → q ≤ 15 → x ≡ answerOf f l (questionOf q i j) → x ≡ askedIn f l q i j
+unfolding askedIn
+asked-some f l q i j x h e = rw (le-leb q 15 h) e
 
 pub asked-of : (f : List ℕ) {l m : Layout} {q r : Question} → l ≡ m → q ≡ r → answerOf f l q ≡ answerOf f m r
 asked-of f {l} {m} {q} {r} e h = ap (λ (x : Layout). answerOf f x q) e ∙ ap (λ (x : Question). answerOf f m x) h
@@ -70,3 +73,18 @@ module _ (d : List ℕ) (a : Answer) {b : Answer} (t : a ≡ b) {c : ℕ} (e : c
 
   pub ask-none : length d < 4 → (c ≡ codeOf b) × (d ≡ answered b d)
   ask-none h = (e ∙ ap codeOf t, rw (lt-leb 4 (length d) h))
+
+-- the bytes that are shown
+module _ (f s t : List ℕ) (q i j : ℕ) where
+  pub shown-none : 15 < q → [] ≡ shownBy f s t q i j
+  shown-none h = rw (ne-eqb q 15 (omega arith)) (ap (λ (x : Answer). shown f x) (asked-none f (layoutIn s) q i j h))
+
+  pub shown-words : {w : List ℕ} {l : Layout} → q ≡ 15 → l ≡ layoutIn s → w ≡ shown f (answerOf f l (askWords i j t)) → w ≡ shownBy f s t q i j
+  shown-words {w} {l} e h m = rw (eq-eqb q 15 e) (m ∙ ap (λ (x : Layout). shown f (answerOf f x (askWords i j t))) h)
+
+  pub shown-asked : {w : List ℕ} {l : Layout} {u : Question} → q < 15 → l ≡ layoutIn s → u ≡ questionOf q i j → w ≡ shown f (answerOf f l u) → w ≡ shownBy f s t q i j
+  shown-asked {w} {l} {u} h e p m = rw (ne-eqb q 15 (omega arith)) (m ∙ ap (λ (x : Answer). shown f x) (asked-some f (layoutIn s) q i j (answerOf f l u) (omega arith) (asked-of f e p)))
+
+-- the number of a file's question: v is the file's, c that of the answer a, which is b
+pub file-code : (f : List ℕ) {a b : Answer} {v c r : ℕ} → a ≡ b → v ≡ verdict f → c ≡ codeOf a → r ≡ cond (eqb v 0) c v → r ≡ fileCode f b
+file-code f {a} {b} {v} {c} t e h m = m ∙ ap (λ (x : ℕ). cond (eqb v 0) x v) (h ∙ ap codeOf t) ∙ ap (λ (x : ℕ). cond (eqb x 0) (codeOf b) x) e

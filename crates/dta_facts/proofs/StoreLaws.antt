@@ -2,13 +2,14 @@
 use mathlib.Core.Path.{_≡_, ap, _∙_}
 use Prim.Native.Nat.{ℕ, _≤_, _<_}
 use native.Mathlib.Omega.{arith}
-use mathlib.Core.List.{List, [], _∷_}
-use lib.ListN.{length, set}
+use mathlib.Core.List.{List, [], _∷_, _++_}
+use lib.ListN.{length, set, take, drop}
+use lib.Seq.{take-length}
 use borrow.Author.Tests.{le-leb, lt-leb}
 use Rattle.format.specs.Dta.{verdict}
 use Rattle.long_list.specs.declared.Listed.{Listed}
 use Rattle.long_list.specs.Lists.{Lists}
-use Rattle.dta_facts.specs.Exports.{stored, countOf, listed}
+use Rattle.dta_facts.specs.Exports.{copied, stored, countOf, listed}
 
 -- one number
 pub stored-room : (n : ℕ) (d : List ℕ) → 1 ≤ length d → set d 0 n ≡ stored n d
@@ -21,3 +22,15 @@ stored-none n d h = rw (lt-leb 1 (length d) h)
 -- what a list promises, and how many numbers it has stored over e
 pub listed-stored : (e : List ℕ) {f t d w v : List ℕ} {r : Listed} → Lists f t d w r → v ≡ stored (r .count) e → (r .code ≡ verdict f) × (w ≡ listed f t d) × (v ≡ stored (countOf f t) e)
 listed-stored e l h = (l .code, l .out, h ∙ ap (λ (n : ℕ). stored n e) (l .count))
+
+-- the bytes u, which are t, with room for them in d or not
+module _ (d : List ℕ) {t u : List ℕ} (e : u ≡ t) where
+  pub copied-room : {w : List ℕ} → length u ≤ length d → w ≡ take (length u) (drop 0 u) ++ drop (length u) d → (length u ≡ length t) × (w ≡ copied t d)
+  copied-room {w} h m =
+      let all : w ≡ copied u d = rw (le-leb (length u) (length d) h) (m ∙ ap (λ (x : List ℕ). x ++ drop (length u) d) (take-length u)) in
+      (ap length e, all ∙ ap (λ (x : List ℕ). copied x d) e)
+
+  pub copied-none : length d < length u → (length u ≡ length t) × (d ≡ copied t d)
+  copied-none h =
+      let none : d ≡ copied u d = rw (lt-leb (length u) (length d) h) in
+      (ap length e, none ∙ ap (λ (x : List ℕ). copied x d) e)

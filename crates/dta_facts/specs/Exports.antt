@@ -5,7 +5,7 @@ use mathlib.Core.Bool.{cond, _&&_}
 use lib.ListN.{length, getD, take, drop}
 use lib.Dec.{eqb, leb}
 use Rattle.format.specs.Dta.{Layout, noLayout, verdict}
-use Rattle.questions.specs.Ask.{Question, Answer, refused, askEdition, askOrder, askK, askN, askLabel, askStamp, askType, askName, askFormat, askSet, askVarLabel, askDate, askSort, askCell, askLong, askWords, answerOf}
+use Rattle.questions.specs.Ask.{Question, Answer, refused, askEdition, askOrder, askK, askN, askLabel, askStamp, askType, askName, askFormat, askSet, askVarLabel, askDate, askSort, askCell, askLong, askWords, answerOf, shown}
 use Rattle.coded.specs.Coded.{numbersOf}
 
 -- the layout of eighteen numbers, edition, byte order, K, N and the fourteen positions; all zeros where there are fewer
@@ -35,14 +35,30 @@ questionOf q i j =
     (cond (eqb q 14) (askLong i j)
     (askWords i j [])))))))))))))))
 
--- the answer to the question of a number; 16 where there is no such question. The text that is lent with label words is none: where nothing is found the
+-- the answer to the question of a number by the layout l; 16 where there is no such question. The text that is lent with label words is none: where nothing is found the
 -- answer is that the caller's plain text is shown
-unfoldable pub askedBy : List ℕ → List ℕ → ℕ → ℕ → ℕ → Answer
-askedBy f s q i j = cond (leb q 15) (answerOf f (layoutIn s) (questionOf q i j)) (refused 16)
+unfoldable pub askedIn : List ℕ → Layout → ℕ → ℕ → ℕ → Answer
+askedIn f l q i j = cond (leb q 15) (answerOf f l (questionOf q i j)) (refused 16)
+
+-- the same by the layout of eighteen numbers
+abbrev pub askedBy : List ℕ → List ℕ → ℕ → ℕ → ℕ → Answer
+askedBy f s q i j = askedIn f (layoutIn s) q i j
+
+-- the bytes that the answer to the question of a number shows, where t is the plain text that is lent with label words
+abbrev pub shownBy : List ℕ → List ℕ → List ℕ → ℕ → ℕ → ℕ → List ℕ
+shownBy f s t q i j = shown f (cond (eqb q 15) (answerOf f (layoutIn s) (askWords i j t)) (askedBy f s q i j))
 
 -- the refusal number of an answer, 0 where it is none
 abbrev pub codeOf : Answer → ℕ
 codeOf a = cond (eqb (getD (numbersOf a) 0 0) 0) (getD (numbersOf a) 1 0) 0
+
+-- the number of a file's question by its own layout: the refusal number of the file, or else that of the answer
+abbrev pub fileCode : List ℕ → Answer → ℕ
+fileCode f a = cond (eqb (verdict f) 0) (codeOf a) (verdict f)
+
+-- what a slice of bytes that held d holds after the bytes t were stored, where it has room for all of them
+abbrev pub copied : List ℕ → List ℕ → List ℕ
+copied t d = cond (leb (length t) (length d)) (t ++ drop (length t) d) d
 
 -- what a slice of numbers that held d holds after an answer was stored, where it has room for one
 abbrev pub answered : Answer → List ℕ → List ℕ

@@ -5,16 +5,19 @@ use asking::Question;
 use checking::Layout;
 ghost use mathlib.Core.Path.{_≡_};
 ghost use mathlib.Core.List.{[]};
+ghost use mathlib.Core.Bool.{cond};
+ghost use lib.ListN.{length};
+ghost use lib.Dec.{eqb};
 ghost use Prim.Native.Nat.{ℕ, _+_};
 ghost use Rattle.questions.specs.Ask.{askCell, askWords};
-ghost use Rattle.format.specs.Dta.{verdict};
+ghost use Rattle.format.specs.Dta.{verdict, layoutOf};
 ghost use Rattle.checking.specs.Checks.{layoutBy};
 ghost use Rattle.asking.specs.Asking.{questionBy, answerBy};
 ghost use Rattle.coded.specs.Coded.{following, Tells};
 ghost use Rattle.long_list.specs.Longs.{longsOf};
 ghost use Rattle.set_list.specs.Sets.{setsOf};
 ghost use Rattle.sort_order.specs.Sorted.{sortedOf};
-ghost use Rattle.dta_facts.specs.Exports.{layoutIn, questionOf, askedBy, codeOf, answered, stored, countOf, listed};
+ghost use Rattle.dta_facts.specs.Exports.{layoutIn, questionOf, askedIn, askedBy, shownBy, codeOf, fileCode, copied, answered, stored, countOf, listed};
 
 // The layout of eighteen numbers; all zeros where there are fewer.
 fn layout_in(s: &[u64]) -> Layout
@@ -103,6 +106,81 @@ pub extern "C" fn dta_ask(
 {
     let x = asked(file, layout, question, i, j);
     let code = code_of(x);
+    if 4 <= answer.len() {
+        coded::put_four(answer, coded::numbers_of(x));
+    }
+    code
+}
+
+// The bytes that the answer to the question of a number shows.
+fn shown_by<'a>(file: &'a [u8], layout: &[u64], q: u64, i: u64, j: u64, plain: &'a [u8]) -> &'a [u8]
+    ensures { λ r. ⌜ now r ≡ shownBy (now (file .entry)) (now (layout .entry)) (now (plain .entry)) q i j ⌝ }
+{
+    if 15 < q {
+        return &file[0..0];
+    }
+    let l = layout_in(layout);
+    if q == 15 {
+        return view::words_asked(file, plain, l, i, j);
+    }
+    if q == 14 {
+        return view::long_asked(file, l, i, j);
+    }
+    view::text_asked(file, l, question_of(q, i, j))
+}
+
+// The bytes that the answer to the question of a number shows, or `plain` where no label words are found: gives how many, and copies them to the start of
+// `out`; an `out` with no room for all of them is left as it came.
+#[no_mangle]
+pub extern "C" fn dta_text<'a>(
+    file: &'a [u8],
+    layout: &[u64],
+    question: u64,
+    i: u64,
+    j: u64,
+    plain: &'a [u8],
+    out: &mut [u8],
+) -> usize
+    ensures { λ r. ⌜ (r ≡ length (shownBy (now (file .entry)) (now (layout .entry)) (now (plain .entry)) question i j)) × (now (out .exit) ≡ copied (shownBy (now (file .entry)) (now (layout .entry)) (now (plain .entry)) question i j) (now (out .entry))) ⌝ }
+{
+    let t = shown_by(file, layout, question, i, j, plain);
+    let n = t.len();
+    if n <= out.len() {
+        text::put_bytes(out, t, 0, n);
+    }
+    n
+}
+
+// The answer to the question of a number by the file's own layout; the verdict's number is stored.
+fn checked_by(file: &[u8], code: &mut u8, q: u64, i: u64, j: u64) -> Answer
+    ensures { λ r. ⌜ (now (code .exit) ≡ verdict (now (file .entry))) × (answerBy [] r ≡ askedIn (now (file .entry)) (layoutOf (now (file .entry))) q i j) ⌝ }
+{
+    let x = view::checked_asked(file, code, question_of(q, i, j));
+    if 15 < q {
+        return Answer::Refused(16);
+    }
+    x
+}
+
+// The first number, or the second where that is 0.
+fn first_code(a: u8, b: u8) -> u8
+    ensures { λ r. ⌜ r ≡ cond (eqb a 0) b a ⌝ }
+{
+    if a == 0 {
+        return b;
+    }
+    a
+}
+
+// The answer to the question of a number about a file, which is checked first: 0, or the refusal's number, the file's or else the answer's. The answer by the
+// file's own layout, all zeros with a refusal, is stored as in `dta_ask`.
+#[no_mangle]
+pub extern "C" fn dta_ask_file(file: &[u8], question: u64, i: u64, j: u64, answer: &mut [u64]) -> u8
+    ensures { λ r. ⌜ (r ≡ fileCode (now (file .entry)) (askedIn (now (file .entry)) (layoutOf (now (file .entry))) question i j)) × (now (answer .exit) ≡ answered (askedIn (now (file .entry)) (layoutOf (now (file .entry))) question i j) (now (answer .entry))) ⌝ }
+{
+    let mut verdict: u8 = 0;
+    let x = checked_by(file, &mut verdict, question, i, j);
+    let code = first_code(verdict, code_of(x));
     if 4 <= answer.len() {
         coded::put_four(answer, coded::numbers_of(x));
     }

@@ -1,6 +1,7 @@
 use mathlib.Core.Path.{_∙_}
 use mathlib.Core.List.{[]}
 use Rattle.asking.specs.Asking.{answerBy}
+use Rattle.dta_facts.specs.Exports.{layoutIn}
 use Rattle.dta_facts.proofs.AskLaws.{asked-none, asked-some, asked-of}
 use borrow.Author.Needs.{needs}
 use Rattle.dta_facts.proofs.asked.Statement.{statement}
@@ -9,7 +10,7 @@ use Rattle.dta_facts.proofs.asked.Tie as tie
 returns : tie.Need-returns
 returns c =
     let a = c .before .before .before .args in
-    asked-none (a .file .now) (a .layout .now) (a .q) (a .i) (a .j) (c .if1 .taken)
+    asked-none (a .file .now) (layoutIn (a .layout .now)) (a .q) (a .i) (a .j) (c .if1 .taken)
 
 layout-in-requires : tie.Need-layout-in-requires
 layout-in-requires c κs = search needs
@@ -23,7 +24,7 @@ asked-requires c κs = search needs
 returns-2 : tie.Need-returns-2
 returns-2 c =
     let a = c .before .before .before .before .before .before .args in
-    asked-some (a .file .now) (a .layout .now) (a .q) (a .i) (a .j) (answerBy [] (c .asked .result)) (c .before .before .before .if1 .left) (c .asked .ensures [] ∙ asked-of (a .file .now) (c .before .before .layout-in .ensures) (c .before .question-of .ensures))
+    asked-some (a .file .now) (layoutIn (a .layout .now)) (a .q) (a .i) (a .j) (answerBy [] (c .asked .result)) (c .before .before .before .if1 .left) (c .asked .ensures [] ∙ asked-of (a .file .now) (c .before .before .layout-in .ensures) (c .before .question-of .ensures))
 
 pub asked-spec : {M : Type 1} → statement M
 asked-spec =
