@@ -66,13 +66,16 @@ no-code (A.Content c) h = cell-code (says c)
 no-code A.Plain h = refl
 no-code (A.LongString k p n) h = refl
 
--- what is returned and what is stored, where a is the answer b, with room for it or not
-module _ (d : List ℕ) (a : Answer) {b : Answer} (t : a ≡ b) {c : ℕ} (e : c ≡ codeOf a) where
-  pub ask-room : {w n : List ℕ} → 4 ≤ length d → w ≡ n ++ drop 4 d → n ≡ numbersOf a → (c ≡ codeOf b) × (w ≡ answered b d)
-  ask-room h q m = (e ∙ ap codeOf t, rw (le-leb 4 (length d) h) (q ∙ ap (λ (x : List ℕ). x ++ drop 4 d) (m ∙ ap numbersOf t)))
+-- the answer a stored over d, with room for it or not
+pub answer-room : (d : List ℕ) (a : Answer) {w n : List ℕ} → 4 ≤ length d → w ≡ n ++ drop 4 d → n ≡ numbersOf a → w ≡ answered a d
+answer-room d a h q m = rw (le-leb 4 (length d) h) (q ∙ ap (λ (x : List ℕ). x ++ drop 4 d) m)
 
-  pub ask-none : length d < 4 → (c ≡ codeOf b) × (d ≡ answered b d)
-  ask-none h = (e ∙ ap codeOf t, rw (lt-leb 4 (length d) h))
+pub answer-none : (d : List ℕ) (a : Answer) → length d < 4 → d ≡ answered a d
+answer-none d a h = rw (lt-leb 4 (length d) h)
+
+-- what is returned and what is stored, where a is the answer b
+pub ask-stored : (d : List ℕ) {a b : Answer} {w : List ℕ} {c : ℕ} → a ≡ b → w ≡ answered a d → c ≡ codeOf a → (c ≡ codeOf b) × (w ≡ answered b d)
+ask-stored d t q e = (e ∙ ap codeOf t, q ∙ ap (λ (x : Answer). answered x d) t)
 
 -- the bytes that are shown
 module _ (f s t : List ℕ) (q i j : ℕ) where
@@ -85,6 +88,7 @@ module _ (f s t : List ℕ) (q i j : ℕ) where
   pub shown-asked : {w : List ℕ} {l : Layout} {u : Question} → q < 15 → l ≡ layoutIn s → u ≡ questionOf q i j → w ≡ shown f (answerOf f l u) → w ≡ shownBy f s t q i j
   shown-asked {w} {l} {u} h e p m = rw (ne-eqb q 15 (omega arith)) (m ∙ ap (λ (x : Answer). shown f x) (asked-some f (layoutIn s) q i j (answerOf f l u) (omega arith) (asked-of f e p)))
 
--- the number of a file's question: v is the file's, c that of the answer a, which is b
-pub file-code : (f : List ℕ) {a b : Answer} {v c r : ℕ} → a ≡ b → v ≡ verdict f → c ≡ codeOf a → r ≡ cond (eqb v 0) c v → r ≡ fileCode f b
-file-code f {a} {b} {v} {c} t e h m = m ∙ ap (λ (x : ℕ). cond (eqb v 0) x v) (h ∙ ap codeOf t) ∙ ap (λ (x : ℕ). cond (eqb x 0) (codeOf b) x) e
+-- the same of a file that is checked first: v is its number
+pub file-stored : (f d : List ℕ) {a b : Answer} {w : List ℕ} {v c r : ℕ} → a ≡ b → w ≡ answered a d → v ≡ verdict f → c ≡ codeOf a → r ≡ cond (eqb v 0) c v → (r ≡ fileCode f b) × (w ≡ answered b d)
+file-stored f d {a} {b} {w} {v} t q e h m =
+    (m ∙ ap (λ (x : ℕ). cond (eqb v 0) x v) (h ∙ ap codeOf t) ∙ ap (λ (x : ℕ). cond (eqb x 0) (codeOf b) x) e, q ∙ ap (λ (x : Answer). answered x d) t)

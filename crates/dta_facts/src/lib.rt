@@ -91,6 +91,15 @@ fn code_of(x: Answer) -> u8
     }
 }
 
+// Stores an answer as four numbers, where `out` has room for them.
+fn put_answer(out: &mut [u64], x: Answer)
+    ensures { λ _. ⌜ now (out .exit) ≡ answered (answerBy [] x) (now (out .entry)) ⌝ }
+{
+    if 4 <= out.len() {
+        coded::put_four(out, coded::numbers_of(x));
+    }
+}
+
 // The answer to the question of a number, about variable `i` and observation `j`: 0, or the refusal's number. The answer is stored as four numbers; an
 // `answer` with no room for them is left as it came.
 #[no_mangle]
@@ -105,20 +114,14 @@ pub extern "C" fn dta_ask(
     ensures { λ r. ⌜ (r ≡ codeOf (askedBy (now (file .entry)) (now (layout .entry)) question i j)) × (now (answer .exit) ≡ answered (askedBy (now (file .entry)) (now (layout .entry)) question i j) (now (answer .entry))) ⌝ }
 {
     let x = asked(file, layout, question, i, j);
-    let code = code_of(x);
-    if 4 <= answer.len() {
-        coded::put_four(answer, coded::numbers_of(x));
-    }
-    code
+    put_answer(&mut answer[..], x);
+    code_of(x)
 }
 
 // The bytes that the answer to the question of a number shows.
 fn shown_by<'a>(file: &'a [u8], layout: &[u64], q: u64, i: u64, j: u64, plain: &'a [u8]) -> &'a [u8]
     ensures { λ r. ⌜ now r ≡ shownBy (now (file .entry)) (now (layout .entry)) (now (plain .entry)) q i j ⌝ }
 {
-    if 15 < q {
-        return &file[0..0];
-    }
     let l = layout_in(layout);
     if q == 15 {
         return view::words_asked(file, plain, l, i, j);
@@ -126,7 +129,10 @@ fn shown_by<'a>(file: &'a [u8], layout: &[u64], q: u64, i: u64, j: u64, plain: &
     if q == 14 {
         return view::long_asked(file, l, i, j);
     }
-    view::text_asked(file, l, question_of(q, i, j))
+    if q < 14 {
+        return view::text_asked(file, l, question_of(q, i, j));
+    }
+    &file[0..0]
 }
 
 // The bytes that the answer to the question of a number shows, or `plain` where no label words are found: gives how many, and copies them to the start of
@@ -156,10 +162,10 @@ fn checked_by(file: &[u8], code: &mut u8, q: u64, i: u64, j: u64) -> Answer
     ensures { λ r. ⌜ (now (code .exit) ≡ verdict (now (file .entry))) × (answerBy [] r ≡ askedIn (now (file .entry)) (layoutOf (now (file .entry))) q i j) ⌝ }
 {
     let x = view::checked_asked(file, code, question_of(q, i, j));
-    if 15 < q {
-        return Answer::Refused(16);
+    if q <= 15 {
+        return x;
     }
-    x
+    Answer::Refused(16)
 }
 
 // The first number, or the second where that is 0.
@@ -180,11 +186,8 @@ pub extern "C" fn dta_ask_file(file: &[u8], question: u64, i: u64, j: u64, answe
 {
     let mut verdict: u8 = 0;
     let x = checked_by(file, &mut verdict, question, i, j);
-    let code = first_code(verdict, code_of(x));
-    if 4 <= answer.len() {
-        coded::put_four(answer, coded::numbers_of(x));
-    }
-    code
+    put_answer(&mut answer[..], x);
+    first_code(verdict, code_of(x))
 }
 
 // The cells of variable `i` from observation `j` on, four numbers each, as many as `answers` has room for; gives how many.

@@ -1,5 +1,6 @@
 use mathlib.Core.Path.{refl, _∙_}
 use mathlib.Core.List.{[]}
+use native.Mathlib.Omega.{arith}
 use Rattle.format.specs.Dta.{layoutOf}
 use Rattle.asking.specs.Asking.{answerBy}
 use Rattle.dta_facts.proofs.AskLaws.{asked-none, asked-some, asked-of}
@@ -15,14 +16,15 @@ checked-asked-requires c κs = search needs
 
 returns : tie.Need-returns
 returns c =
+    let k = c .before .checked-asked in
     let a = c .before .before .before .before .before .args in
-    (c .before .checked-asked .ensures .0, asked-none (a .file .now) (layoutOf (a .file .now)) (a .q) (a .i) (a .j) (c .if1 .taken))
+    let f = a .file .now in
+    (k .ensures .0, asked-some f (layoutOf f) (a .q) (a .i) (a .j) (answerBy [] (k .result)) (omega (arith, c .if1 .taken)) (k .ensures .1 [] ∙ asked-of f refl (c .before .before .question-of .ensures)))
 
 returns-2 : tie.Need-returns-2
 returns-2 c =
     let a = c .before .before .before .before .before .args in
-    let f = a .file .now in
-    (c .before .checked-asked .ensures .0, asked-some f (layoutOf f) (a .q) (a .i) (a .j) (answerBy [] (c .before .checked-asked .result)) (c .if1 .left) (c .before .checked-asked .ensures .1 [] ∙ asked-of f refl (c .before .before .question-of .ensures)))
+    (c .before .checked-asked .ensures .0, asked-none (a .file .now) (layoutOf (a .file .now)) (a .q) (a .i) (a .j) (omega arith))
 
 pub checked-by-spec : {M : Type 1} → statement M
 checked-by-spec =

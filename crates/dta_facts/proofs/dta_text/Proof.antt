@@ -16,7 +16,7 @@ same-length c = search needs
 returns : tie.Need-returns
 returns c =
     let b = c .before .before .before .before .before in
-    copied-room (b .before .before .before .before .before .args .out .now) (b .shown-by .ensures) (c .before .before .before .before .if1 .taken) (c .before .before .put-bytes .ensures)
+    copied-room (b .before .before .before .before .before .args .out .now) (b .shown-by .ensures) (omega (arith, c .before .before .before .before .if1 .taken)) (c .before .before .put-bytes .ensures)
 
 returns-2 : tie.Need-returns-2
 returns-2 c =
