@@ -104,13 +104,36 @@ fn questions(i: u64, j: u64) -> [Question; 16] {
     ]
 }
 
+/// A plain text that is lent with label words.
+const PLAIN: &[u8] = b"a plain text\xff";
+/// What stands in lent bytes before a call.
+const BYTE: u8 = 0x5a;
+
+/// The bytes that an answer shows.
+fn shown<'a>(file: &'a [u8], answer: Answer, plain: &'a [u8]) -> &'a [u8] {
+    match answer {
+        Answer::Text(span)
+        | Answer::Words(Some(span))
+        | Answer::Cell(Cell::Text(span))
+        | Answer::Long { contents: span, .. } => {
+            &file[span.place as usize..][..span.length as usize]
+        }
+        Answer::Words(None) => plain,
+        _ => &[],
+    }
+}
+
 type Ask = fn(&[u8], &[u64], u64, u64, u64, &mut [u64]) -> u8;
+type AskFile = fn(&[u8], u64, u64, u64, &mut [u64]) -> u8;
+type Text = fn(&[u8], &[u64], u64, u64, u64, &[u8], &mut [u8]) -> usize;
 type Run = fn(&[u8], &[u64], u64, u64, &mut [u64]) -> usize;
 
 /// The functions that are compared: the library's, or wrong ones.
 #[derive(Clone, Copy)]
 struct Functions {
     ask: Ask,
+    ask_file: AskFile,
+    text: Text,
     down: Run,
     along: Run,
     words: Run,
@@ -118,10 +141,69 @@ struct Functions {
 
 const PROVED: Functions = Functions {
     ask: raw::ask,
+    ask_file: raw::ask_file,
+    text: raw::text,
     down: raw::cells_down,
     along: raw::cells_along,
     words: raw::words_down,
 };
+
+/// What is different in the bytes that the answers over a file and a layout show.
+fn text_difference(
+    of: &Functions,
+    file: &[u8],
+    layout: &Numbers,
+    (i, j): (u64, u64),
+    plain: &[u8],
+    count: &mut u64,
+) -> Option<String> {
+    for (number, question) in questions(i, j).into_iter().enumerate() {
+        let due = shown(file, ask(file, layout, question), plain);
+        for room in [0, due.len().saturating_sub(1), due.len(), due.len() + 3] {
+            let mut lent = vec![BYTE; room];
+            let given = (of.text)(file, layout, number as u64, i, j, plain, &mut lent);
+            let mut left = vec![BYTE; room];
+            if due.len() <= room {
+                left[..due.len()].copy_from_slice(due);
+            }
+            if given != due.len() || lent != left {
+                return Some(format!(
+                    "the text of {question:?} in {room}: {given} {lent:x?}, due {due:x?}"
+                ));
+            }
+        }
+        *count += u64::from(!due.is_empty());
+    }
+    None
+}
+
+/// What is different in the answers about a file that is checked first, with its verdict and its layout, or zeros.
+fn file_difference(of: &Functions, file: &[u8], verdict: u8, layout: &Numbers) -> Option<String> {
+    let (k, n) = (layout[2], layout[3]);
+    for (i, j) in [(1, 1), (k, n), (0, 1), (k + 1, n)] {
+        for (number, question) in questions(i, j).into_iter().enumerate() {
+            let due = coded(ask(file, layout, question));
+            for room in [0, 3, 4, 6] {
+                let mut lent = vec![BEFORE; room];
+                let code = (of.ask_file)(file, number as u64, i, j, &mut lent);
+                let mut left = vec![BEFORE; room];
+                if room >= 4 {
+                    left[..4].copy_from_slice(&due);
+                }
+                let number = match (verdict, due[0]) {
+                    (0, 0) => due[1],
+                    _ => u64::from(verdict),
+                };
+                if u64::from(code) != number || lent != left {
+                    return Some(format!(
+                        "{question:?} of the file in {room}: {code} {lent:x?}, due {number} {left:x?}"
+                    ));
+                }
+            }
+        }
+    }
+    None
+}
 
 /// What is different in the answers over a file and a layout; how many answers were compared is added to `count`.
 fn difference(
@@ -149,6 +231,12 @@ fn difference(
                 }
             }
             *count += 1;
+        }
+        for plain in [PLAIN, &[]] {
+            let difference = text_difference(of, file, layout, (i, j), plain, count);
+            if difference.is_some() {
+                return difference;
+            }
         }
         let (k, n) = (layout[2], layout[3]);
         let runs: [(&str, Run, u64, u64, &dyn Fn(u64) -> Question); 3] = [
@@ -202,6 +290,10 @@ fn first_difference(of: &Functions, files: &[Vec<u8>]) -> Result<u64, String> {
     let mut other = [0; 18];
     for file in files {
         let own = check(file).map(|layout| numbers(&layout));
+        let verdict = own.as_ref().err().copied().unwrap_or(0);
+        if let Some(difference) = file_difference(of, file, verdict, &own.unwrap_or([0; 18])) {
+            return Err(format!("a file of {} bytes: {difference}", file.len()));
+        }
         let mut layouts = Vec::new();
         match own {
             Ok(own) => {
@@ -231,7 +323,7 @@ fn first_difference(of: &Functions, files: &[Vec<u8>]) -> Result<u64, String> {
 fn exported_questions_answer_alike() {
     let count =
         first_difference(&PROVED, &files()).unwrap_or_else(|difference| panic!("{difference}"));
-    assert!(count > 300_000, "{count} answers");
+    assert!(count > 600_000, "{count} answers");
 }
 
 #[test]
@@ -308,6 +400,82 @@ fn wrong_functions_are_found() {
 }
 
 #[test]
+fn wrong_texts_are_found() {
+    fn longer(f: &[u8], l: &[u64], q: u64, i: u64, j: u64, t: &[u8], out: &mut [u8]) -> usize {
+        raw::text(f, l, q, i, j, t, out) + 1
+    }
+    fn plain(f: &[u8], l: &[u64], q: u64, i: u64, j: u64, t: &[u8], out: &mut [u8]) -> usize {
+        if q != 15 {
+            return raw::text(f, l, q, i, j, t, out);
+        }
+        if let Some(start) = out.get_mut(..t.len()) {
+            start.copy_from_slice(t);
+        }
+        t.len()
+    }
+    fn never(f: &[u8], l: &[u64], q: u64, i: u64, j: u64, _: &[u8], out: &mut [u8]) -> usize {
+        raw::text(f, l, q, i, j, &[], out)
+    }
+    fn cut(f: &[u8], l: &[u64], q: u64, i: u64, j: u64, t: &[u8], out: &mut [u8]) -> usize {
+        let mut whole = vec![0; raw::text(f, l, q, i, j, t, &mut [])];
+        let bytes = raw::text(f, l, q, i, j, t, &mut whole);
+        let some = bytes.min(out.len());
+        out[..some].copy_from_slice(&whole[..some]);
+        bytes
+    }
+    fn ended(f: &[u8], l: &[u64], q: u64, i: u64, j: u64, t: &[u8], out: &mut [u8]) -> usize {
+        let bytes = raw::text(f, l, q, i, j, t, out);
+        if let Some(past) = out.get_mut(bytes) {
+            *past = 0;
+        }
+        bytes
+    }
+    fn without_long(
+        f: &[u8],
+        l: &[u64],
+        q: u64,
+        i: u64,
+        j: u64,
+        t: &[u8],
+        out: &mut [u8],
+    ) -> usize {
+        raw::text(f, l, if q == 14 { 13 } else { q }, i, j, t, out)
+    }
+    fn answers_alone(file: &[u8], number: u64, i: u64, j: u64, lent: &mut [u64]) -> u8 {
+        let mut layout = [0; raw::LAYOUT];
+        raw::check(file, &mut layout);
+        raw::ask(file, &layout, number, i, j, lent)
+    }
+    fn nothing_stored(file: &[u8], number: u64, i: u64, j: u64, lent: &mut [u64]) -> u8 {
+        match raw::check(file, &mut []) {
+            0 => raw::ask_file(file, number, i, j, lent),
+            verdict => verdict,
+        }
+    }
+    let files = files();
+    let texts: [(&str, Text); 6] = [
+        ("longer", longer),
+        ("plain", plain),
+        ("never", never),
+        ("cut", cut),
+        ("ended", ended),
+        ("without_long", without_long),
+    ];
+    for (name, text) in texts {
+        let of = Functions { text, ..PROVED };
+        assert!(first_difference(&of, &files).is_err(), "{name}");
+    }
+    let asks: [(&str, AskFile); 2] = [
+        ("answers_alone", answers_alone),
+        ("nothing_stored", nothing_stored),
+    ];
+    for (name, ask_file) in asks {
+        let of = Functions { ask_file, ..PROVED };
+        assert!(first_difference(&of, &files).is_err(), "{name}");
+    }
+}
+
+#[test]
 fn layouts_and_questions_that_are_none() {
     let file = stated::case("117-msf-typical");
     let own = numbers(&check(&file).unwrap());
@@ -317,6 +485,14 @@ fn layouts_and_questions_that_are_none() {
         assert_eq!(raw::ask(&file, &own[..count], 13, 1, 1, &mut lent), 16);
         assert_eq!(lent, [0, 16, 0, 0]);
         assert_eq!(raw::cells_down(&file, &own[..count], 1, 1, &mut lent), 0);
+        let mut out = [BYTE; 9];
+        for number in 0..16 {
+            assert_eq!(
+                raw::text(&file, &own[..count], number, 1, 1, PLAIN, &mut out),
+                0
+            );
+        }
+        assert_eq!(out, [BYTE; 9]);
     }
     let longer: Vec<u64> = own.iter().copied().chain([7, 7]).collect();
     let mut lent = [BEFORE; 4];
@@ -325,6 +501,15 @@ fn layouts_and_questions_that_are_none() {
     for number in [16, 17, 255, u64::MAX] {
         assert_eq!(raw::ask(&file, &own, number, 1, 1, &mut lent), 16);
         assert_eq!(lent, [0, 16, 0, 0]);
+        lent = [BEFORE; 4];
+        assert_eq!(raw::ask_file(&file, number, 1, 1, &mut lent), 16);
+        assert_eq!(lent, [0, 16, 0, 0]);
+        let cut = &file[..file.len() - 1];
+        assert_eq!(Err(raw::ask_file(cut, number, 1, 1, &mut lent)), check(cut));
+        assert_eq!(lent, [0, 16, 0, 0]);
+        let mut out = [BYTE; 40];
+        assert_eq!(raw::text(&file, &own, number, 1, 1, PLAIN, &mut out), 0);
+        assert_eq!(out, [BYTE; 40]);
     }
 }
 
@@ -338,6 +523,8 @@ fn half_a_megabyte_of_stack_is_enough() {
         let mut count = [BEFORE];
         for number in 0..16 {
             assert_eq!(raw::ask(&file, &own, number, 1, 1, &mut lent), 0);
+            assert_eq!(raw::ask_file(&file, number, 1, 1, &mut lent), 0);
+            raw::text(&file, &own, number, 1, 1, PLAIN, &mut [BYTE; 400]);
         }
         let many = [raw::cells_down, raw::cells_along, raw::words_down];
         assert!(many.iter().all(|run| run(&file, &own, 1, 1, &mut lent) > 0));

@@ -72,6 +72,14 @@ enum dta_answer {
  * eighteen numbers is taken as zeros; a question that is not one of the above is refused with 16. */
 uint8_t dta_ask(const uint8_t *file, size_t file_len, const uint64_t *layout, size_t layout_len, uint64_t question, uint64_t i, uint64_t j, uint64_t *answer, size_t answer_len);
 
+/* The bytes that the answer to a question shows: a text of the file, or the caller's plain text where no label is found; none with a refusal or with an answer that
+ * names none. Gives how many they are; they are stored at the start of `out` where it has room for all of them, else `out` is left as it came. */
+size_t dta_text(const uint8_t *file, size_t file_len, const uint64_t *layout, size_t layout_len, uint64_t question, uint64_t i, uint64_t j, const uint8_t *plain, size_t plain_len, uint8_t *out, size_t out_len);
+
+/* The answer to a question about a file that is checked first: the verdict where the file is refused, else 0 or the refusal's number of the answer. The answer by
+ * the file's own layout is stored where there is room for four numbers; with a refused file it is that by a layout of zeros, a refusal with 16 or 17. */
+uint8_t dta_ask_file(const uint8_t *file, size_t file_len, uint64_t question, uint64_t i, uint64_t j, uint64_t *answer, size_t answer_len);
+
 /* Many cells: those of variable i from observation j on, those of observation j from variable i on, and the label words of those of variable i from observation j
  * on. Each is stored as the answer to the question about it, four numbers, as many as there is room for; gives how many. */
 size_t dta_cells_down(const uint8_t *file, size_t file_len, const uint64_t *layout, size_t layout_len, uint64_t i, uint64_t j, uint64_t *answers, size_t answers_len);

@@ -77,7 +77,8 @@ static int rewrite(const char *name) {
 }
 
 int main(int count, char **names) {
-    uint64_t layout[DTA_LAYOUT], name[DTA_ANSWER], cell[DTA_ANSWER], words[DTA_ANSWER];
+    uint64_t layout[DTA_LAYOUT], cell[DTA_ANSWER], words[DTA_ANSWER];
+    uint8_t name[32];
     if (count < 2 || !read_file(names[1])) {
         fprintf(stderr, "a file is due that can be read\n");
         return 2;
@@ -89,8 +90,7 @@ int main(int count, char **names) {
     }
     printf("%llu %s %llu %llu %zu\n", (unsigned long long)layout[0], layout[1] == 1 ? "MSF" : "LSF", (unsigned long long)layout[2], (unsigned long long)layout[3], length);
     for (uint64_t i = 1; i <= layout[2]; i++) {
-        dta_ask(file, length, layout, DTA_LAYOUT, DTA_NAME, i, 0, name, DTA_ANSWER);
-        write_part(name[1], name[2]);
+        fwrite(name, 1, dta_text(file, length, layout, DTA_LAYOUT, DTA_NAME, i, 0, file, 0, name, sizeof name), stdout);
         if (dta_ask(file, length, layout, DTA_LAYOUT, DTA_CELL, i, 1, cell, DTA_ANSWER) == 0) {
             dta_ask(file, length, layout, DTA_LAYOUT, DTA_WORDS, i, 1, words, DTA_ANSWER);
             printf(" ");

@@ -40,6 +40,28 @@ mod c {
             answer: *mut u64,
             answer_len: usize,
         ) -> u8;
+        pub fn dta_text(
+            file: *const u8,
+            file_len: usize,
+            layout: *const u64,
+            layout_len: usize,
+            question: u64,
+            i: u64,
+            j: u64,
+            plain: *const u8,
+            plain_len: usize,
+            out: *mut u8,
+            out_len: usize,
+        ) -> usize;
+        pub fn dta_ask_file(
+            file: *const u8,
+            file_len: usize,
+            question: u64,
+            i: u64,
+            j: u64,
+            answer: *mut u64,
+            answer_len: usize,
+        ) -> u8;
         pub fn dta_cells_down(
             file: *const u8,
             file_len: usize,
@@ -130,6 +152,51 @@ pub fn ask(file: &[u8], layout: &[u64], question: u64, i: u64, j: u64, answer: &
             file.len(),
             layout.as_ptr(),
             layout.len(),
+            question,
+            i,
+            j,
+            answer.as_mut_ptr(),
+            answer.len(),
+        )
+    }
+}
+
+/// The bytes that the answer to the question of that number shows: a text of the file, or `plain` where no label words are found; none with a refusal, with
+/// an answer that names none and where there is no such question. Gives how many they are; they are stored at the start of `out` where it has room for all
+/// of them.
+pub fn text(
+    file: &[u8],
+    layout: &[u64],
+    question: u64,
+    i: u64,
+    j: u64,
+    plain: &[u8],
+    out: &mut [u8],
+) -> usize {
+    unsafe {
+        c::dta_text(
+            file.as_ptr(),
+            file.len(),
+            layout.as_ptr(),
+            layout.len(),
+            question,
+            i,
+            j,
+            plain.as_ptr(),
+            plain.len(),
+            out.as_mut_ptr(),
+            out.len(),
+        )
+    }
+}
+
+/// The answer to the question of that number about a file, which is checked first: the file's verdict where it is refused, else as `ask` by the file's own
+/// layout. With a refused file the stored answer is that by a layout of zeros: a refusal.
+pub fn ask_file(file: &[u8], question: u64, i: u64, j: u64, answer: &mut [u64]) -> u8 {
+    unsafe {
+        c::dta_ask_file(
+            file.as_ptr(),
+            file.len(),
             question,
             i,
             j,
