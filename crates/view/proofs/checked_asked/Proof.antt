@@ -44,9 +44,10 @@ use Rattle.asking.specs.declared.Answer.{Answer}
 use Rattle.asking.proofs.Question as Q
 use Rattle.asking.proofs.Answer as S
 use Rattle.view.specs.declared.View.{View}
+use Rattle.view.proofs.Calls.{returned}
 use Rattle.view.proofs.Held.{B}
 use Rattle.view.proofs.Thin.{question, Answers, answer, Told, own as held, own-clauses as held-clauses}
-use Rattle.view.proofs.Made.{local-typed, Ask, to-ask, goes-ask, ask-said}
+use Rattle.view.proofs.Made.{local-typed, Ask, to-ask, goes-ask}
 use Rattle.view.proofs.checked as checking
 use Rattle.view.proofs.checked.Symbol as checked-def
 use Rattle.view.proofs.checked.Symbol.{name as #view·checked}
@@ -150,14 +151,12 @@ module _ {M : Type 1} (𝓤 : URA M) (H : Heap 𝓤) (A : Atoms 𝓤) (W : Given
         land ! (from ! (stop !)) (init ! 8 refl (local-typed κ s (r .layout) 𝓤 H A W r u is)) $
         use2 W (raw (Asks 𝓤 H A mem run .pre (to-ask Q.the-row question Answers answer Told 𝓤 H A W κ q i r u)) ⊛ ‵ (flft κ′ q′)) (goes asks r u) $ split ! $
         calls-at ! fm (Asks 𝓤 H A mem run) known-ask (to-ask Q.the-row question Answers answer Told 𝓤 H A W κ q i r u) (and-then ! (load ! (from ! (stop !)) (look ! 8 refl)) (and-then ! (load ! (from ! (stop !)) (look ! 10 refl)) (no-more !))) (λ u′.
-        use1 W (later (some (λ (t : Answer). ((‵ (flft κ q) ⊛ ‵ ftrue) ⊛ ‵ (S.the-row .own t (u′ ∷ []))) ⊛ raw (ensured 𝓤 H A (held Q.the-row question Answers answer Told) (held-clauses Q.the-row question Answers answer Told 𝓤) (κ, tt) (r, (i, tt)) tt t)))) (id⊢ 𝓤 _) $ await ! tt $ pick ! (λ t.
-        split ! $ move ! (1 ∷ []) $ use1 W (raw (fact 𝓤 (Told (κ, tt) (r .file) (r .layout) i t))) (ask-said Q.the-row question Answers answer Told 𝓤 H A W κ q i r t) $ heard ! (Told (κ, tt) (r .file) (r .layout) i t) (λ e′. split ! $ move ! (1 ∷ []) $
+        returned (held Q.the-row question Answers answer Told .signature .params) (held Q.the-row question Answers answer Told .kept) Answers ! tt (held-clauses Q.the-row question Answers answer Told 𝓤) κ q (r, (i, tt)) (u ∷ [], (y ∷ [], tt)) tt (Told (κ, tt) (r .file) (r .layout) i) (λ t _. id⊢ 𝓤 _) u′ (λ t e′ is′.
         -- [the result; the file's token; the number's; the last number; …; …; what file owns; _5; …; _4; …; _3; …; _2; …; _1; …; room for _0; …]
-        peeks ! S.the-row (Is S.the-row) (shows 𝓤 H A S.the-row) t (u′ ∷ []) (λ is′.
         land ! (from ! (stop !)) (init ! 17 refl (answer .typed 𝓤 H A W (κ, tt) t u′ is′)) $
         returns ! (look ! 17 refl) $ forget ! 7 refl $ forget ! 9 refl $ forget ! 11 refl $ forget ! 13 refl $ forget ! 15 refl $ forget ! 17 refl $
         move ! (17 ∷ 18 ∷ []) $ free1 ! $ move ! (15 ∷ 16 ∷ []) $ free1 ! $ move ! (13 ∷ 14 ∷ []) $ free1 ! $ move ! (11 ∷ 12 ∷ []) $ free1 ! $ move ! (9 ∷ 10 ∷ []) $ free1 ! $ move ! (7 ∷ 8 ∷ []) $ free1 ! $ free0 ! $
-        keep ! (0 ∷ 1 ∷ 2 ∷ 3 ∷ 6 ∷ []) $ by ! (exits asks t u′ (ws .1 .0) (found r t (ws .1 .0) e e′)))))))))))))))))
+        keep ! (0 ∷ 1 ∷ 2 ∷ 3 ∷ 6 ∷ []) $ by ! (exits asks t u′ (ws .1 .0) (found r t (ws .1 .0) e e′)))))))))))))))
 
 meets : {M : Type 1} (𝓤 : URA M) (H : Heap 𝓤) (A : Atoms 𝓤) (W : Given 𝓤 H A) (mem : Memory → SProp 𝓤) (run : Routine → Fun 𝓤) (𝓣 : Tables 𝓤 H)
     → Triple 𝓤 (𝓣 .C #view·checked) (Checked 𝓤 H A mem run) → Triple 𝓤 (𝓣 .C #view·ask) (Asks 𝓤 H A mem run)
