@@ -1,12 +1,14 @@
 -- References and cells, step by step.
-use mathlib.Core.Path.{_≡_, ap, _∙_}
+use mathlib.Core.Path.{_≡_, refl, sym, _∙_}
 use Prim.Native.Nat.{ℕ, suc, _+_, _-_, _≤_, _<_}
+use native.Mathlib.Omega.{arith}
 use native.Mathlib.Numerals.{add-one}
 use mathlib.Core.List.{List}
 use mathlib.Core.Bool.{Bool, true, false, _||_, _&&_}
 use lib.Dec.{eqb, leb}
-use borrow.Author.Tests.{eq-eqb, ne-eqb, le-leb, lt-leb, lt-ltb, le-ltb}
+use borrow.Author.Tests.{eq-eqb, eqb-true, le-leb, lt-leb, lt-ltb, le-ltb, ne-eqb}
 use Rattle.format.specs.Number.{num}
+use Rattle.format.proofs.Good.{and-left, and-right}
 use Rattle.strls.specs.declared.Frame.{Frame}
 use Rattle.strls.specs.Records.{orderOf, recordSize}
 use Rattle.strls.specs.Links.{earlier, placeOf, isLong, linkAt, selfAt, refOk, linkOk, going, broken, taken, cellStep}
@@ -33,6 +35,19 @@ or-none s t u a b = rw (a, b)
 or-last : (s t u : Bool) → s ≡ false → t ≡ true → u ≡ (s || (t && u))
 or-last s t u a b = rw (a, b)
 
+or-both : (s t u : Bool) → t ≡ true → u ≡ true → true ≡ (s || (t && u))
+or-both true t u a b = refl
+or-both false t u a b = rw (a, b)
+
+-- ---- a record of n bytes, or none
+
+module _ (q n : ℕ) where
+  pub taken-none : n ≡ 0 → broken ≡ taken q n
+  taken-none z = rw (eq-eqb n 0 z)
+
+  pub taken-some : (n ≡ 0 → ⊥) → going (q + n) ≡ taken q n
+  taken-some z = rw (ne-eqb n 0 z)
+
 module _ (f : List ℕ) (d : Frame) where
   -- the numbers v and o of the strL cell at p
   abbrev vAt : ℕ → ℕ
@@ -40,13 +55,6 @@ module _ (f : List ℕ) (d : Frame) where
 
   abbrev oAt : ℕ → ℕ
   oAt p = num (orderOf d) (d .owidth) f (p + d .vwidth)
-
-  module _ (p v x : ℕ) where
-    pub linkat-no : (vAt p ≡ v → ⊥) → false ≡ linkAt f d p v x
-    linkat-no h = rw (ne-eqb (vAt p) v h)
-
-    pub linkat-yes : vAt p ≡ v → eqb (oAt p) x ≡ linkAt f d p v x
-    linkat-yes h = rw (eq-eqb (vAt p) v h)
 
   -- ---- whether a cell names itself
 
@@ -87,6 +95,18 @@ module _ (f : List ℕ) (d : Frame) where
     pub ref-empty : linkAt f d p 0 0 ≡ true → true ≡ linkOk f d i j
     ref-empty z = or-first (eqb v 0 && eqb x 0) (earlier v x (i + 1) (j + 1) && selfAt f d v x) (rw (a, b) z) ∙ ref-is
 
+    -- a cell that names itself is right
+    pub ref-own : i < d .k → j < d .n → isLong f d i ≡ true → linkAt f d p (i + 1) (j + 1) ≡ true → true ≡ linkOk f d i j
+    ref-own h n l z =
+        let y : v ≡ i + 1 = a ∙ eqb-true (vAt p) (i + 1) (and-left (eqb (vAt p) (i + 1)) (eqb (oAt p) (j + 1)) z) in
+        let w : x ≡ j + 1 = b ∙ eqb-true (oAt p) (j + 1) (and-right (eqb (vAt p) (i + 1)) (eqb (oAt p) (j + 1)) z) in
+        let g : v - 1 ≡ i = omega arith in
+        let k : x - 1 ≡ j = omega arith in
+        let s : linkAt f d (placeOf f d (v - 1) (x - 1)) v x ≡ true = rw (g, k, ← e, y, w) z in
+        let t : earlier v x (i + 1) (j + 1) ≡ true = sym (same-row v x (i + 1) (j + 1) (omega arith) w) ∙ le-leb v (i + 1) (omega arith) in
+        let u : selfAt f d v x ≡ true = sym (self-is v x (omega arith) (omega arith) (omega arith) (omega arith) (rw g l)) ∙ s in
+        or-both (eqb v 0 && eqb x 0) (earlier v x (i + 1) (j + 1)) (selfAt f d v x) t u ∙ ref-is
+
     module _ (z : linkAt f d p 0 0 ≡ false) where
       pub ref-late : earlier v x (i + 1) (j + 1) ≡ false → false ≡ linkOk f d i j
       ref-late n = or-none (eqb v 0 && eqb x 0) (earlier v x (i + 1) (j + 1)) (selfAt f d v x) (rw (a, b) z) n ∙ ref-is
@@ -114,13 +134,6 @@ module _ (f : List ℕ) (d : Frame) where
         unfolding cellStep
         step-ref e = rw (a, b, there e)
 
-        step-size : linkAt f d p (i + 1) (j + 1) ≡ true → taken q (recordSize f d q (i + 1) (j + 1)) ≡ cellStep f d i j q
+        pub step-size : linkAt f d p (i + 1) (j + 1) ≡ true → taken q (recordSize f d q (i + 1) (j + 1)) ≡ cellStep f d i j q
         unfolding cellStep
         step-size e = rw (a, b, there e, add-one i, add-one j)
-
-        module _ (e : linkAt f d p (i + 1) (j + 1) ≡ true) (n : ℕ) (g : n ≡ recordSize f d q (i + 1) (j + 1)) where
-          pub step-none : n ≡ 0 → broken ≡ cellStep f d i j q
-          step-none z = let h : broken ≡ taken q n = rw (eq-eqb n 0 z) in h ∙ ap (taken q) g ∙ step-size e
-
-          pub step-record : (n ≡ 0 → ⊥) → going (q + n) ≡ cellStep f d i j q
-          step-record z = let h : going (q + n) ≡ taken q n = rw (ne-eqb n 0 z) in h ∙ ap (taken q) g ∙ step-size e

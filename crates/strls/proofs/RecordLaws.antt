@@ -4,11 +4,11 @@ use Prim.Native.Nat.{ℕ, zero, suc, _+_, _≤_, _<_}
 use native.Mathlib.Omega.{arith}
 use native.Mathlib.Numerals.{add-one}
 use mathlib.Core.List.{List}
-use mathlib.Core.Bool.{Bool, true, false, cond, and-false}
+use mathlib.Core.Bool.{Bool, true, false, cond, and-false, _&&_}
 use lib.ListN.{length, getD, List·getD-eq-default}
 use lib.Dec.{eqb, leb}
 use borrow.Author.Tests.{eq-eqb, ne-eqb, le-leb, lt-leb, leb-true, leb-false}
-use Rattle.format.specs.Number.{num, tab}
+use Rattle.format.specs.Number.{Order, num, tab}
 use Rattle.format.specs.Grammar.{Sect, also, need, next, sameAt, textAt, tag}
 use Rattle.format.specs.Edition.{t-GSO}
 use Rattle.format.specs.Data.{LongString, longNext, longHead, longRecord}
@@ -16,9 +16,15 @@ use Rattle.format.proofs.Good.{and-left, and-right, also-right, need-room}
 use Rattle.section.specs.Judged.{Judged}
 use Rattle.section.proofs.StepLaws.{refused}
 use Rattle.strls.specs.declared.Frame.{Frame}
-use Rattle.strls.specs.Records.{orderOf, kindOk, headSize, kindAt, lenAt, recordOk, recordSize}
+use Rattle.strls.specs.Records.{orderOf, kindOk, headSize, kindAt, lenAt, pairAt, recordOk, recordSize}
 
 -- ---- whether a record is next
+
+three : (a b c : Bool) → ((a && b) && c) ≡ (a && (b && (c && true)))
+three true true true = refl
+three true true false = refl
+three true false c = refl
+three false b c = refl
 
 module _ (t : Bool) (f : List ℕ) (p : ℕ) where
   pub next-none : t ≡ false → false ≡ longNext t f p
@@ -27,8 +33,11 @@ module _ (t : Bool) (f : List ℕ) (p : ℕ) where
   pub next-out : length f < p + 3 → false ≡ longNext t f p
   next-out h = let e : getD f (suc (suc p)) 0 ≡ 0 = List·getD-eq-default f 0 (omega arith) in rw (e, and-false, and-false, and-false)
 
-  pub next-same : t ≡ true → (b : Bool) → b ≡ sameAt t-GSO f p → b ≡ longNext t f p
-  next-same h b e = rw h e
+  pub next-same : t ≡ true → ((eqb (getD f p 0) 71 && eqb (getD f (p + 1) 0) 83) && eqb (getD f (p + 2) 0) 79) ≡ longNext t f p
+  next-same h =
+      let a : p + 1 ≡ suc p = omega arith in
+      let b : p + 2 ≡ suc (suc p) = omega arith in
+      rw (h, a, b) (three (eqb (getD f p 0) 71) (eqb (getD f (suc p) 0) 83) (eqb (getD f (suc (suc p)) 0) 79))
 
   pub next-in : longNext t f p ≡ true → p + 3 ≤ length f
   next-in h = go (leb (p + 3) (length f)) refl
@@ -36,6 +45,19 @@ module _ (t : Bool) (f : List ℕ) (p : ℕ) where
       go : (b : Bool) → leb (p + 3) (length f) ≡ b → p + 3 ≤ length f
       go true q = leb-true (p + 3) (length f) q
       go false q = absurd (subst (λ (b : Bool). cond b (Unit {0}) ⊥) (sym h ∙ sym (next-out (leb-false (p + 3) (length f) q))) tt)
+
+-- ---- two numbers
+
+module _ (o : Order) (f : List ℕ) (p v x : ℕ) where
+  module _ (vw ow : ℕ) where
+    pub pair-no : (num o vw f p ≡ v → ⊥) → false ≡ pairAt o vw ow f p v x
+    pair-no h = rw (ne-eqb (num o vw f p) v h)
+
+    pub pair-yes : num o vw f p ≡ v → eqb (num o ow f (p + vw)) x ≡ pairAt o vw ow f p v x
+    pair-yes h = rw (eq-eqb (num o vw f p) v h)
+
+    pub pair-fours : vw ≡ 4 → ow ≡ 4 → pairAt o 4 4 f p v x ≡ pairAt o vw ow f p v x
+    pair-fours a b = rw (a, b)
 
 -- ---- contents by kind
 
@@ -71,33 +93,26 @@ module _ (f : List ℕ) (d : Frame) (q v x : ℕ) where
     rec-gso g = rw (le-leb (q + h) (length f) c, g)
 
     module _ (g : longNext (d .tagged) f q ≡ true) where
-      pub rec-v : (num (orderOf d) 4 f (q + 3) ≡ v → ⊥) → 0 ≡ size
+      pub rec-other : pairAt (orderOf d) 4 (d .rwidth) f (q + 3) v x ≡ false → 0 ≡ size
       unfolding recordOk
-      rec-v a = rw (le-leb (q + h) (length f) c, g, ne-eqb (num (orderOf d) 4 f (q + 3)) v a)
+      rec-other a = rw (le-leb (q + h) (length f) c, g, a)
 
-      module _ (a : num (orderOf d) 4 f (q + 3) ≡ v) where
-        pub rec-x : (num (orderOf d) (d .rwidth) f (q + 7) ≡ x → ⊥) → 0 ≡ size
+      module _ (a : pairAt (orderOf d) 4 (d .rwidth) f (q + 3) v x ≡ true) where
+        pub rec-cut : length f < q + h + lenAt f d q → 0 ≡ size
         unfolding recordOk
-        rec-x b = rw (le-leb (q + h) (length f) c, g, eq-eqb (num (orderOf d) 4 f (q + 3)) v a, ne-eqb (num (orderOf d) (d .rwidth) f (q + 7)) x b)
+        rec-cut e = rw (le-leb (q + h) (length f) c, g, a, lt-leb (q + h + lenAt f d q) (length f) e)
 
-        module _ (b : num (orderOf d) (d .rwidth) f (q + 7) ≡ x) where
-          pub rec-cut : length f < q + h + lenAt f d q → 0 ≡ size
-          unfolding recordOk
-          rec-cut e =
-              rw (le-leb (q + h) (length f) c, g, eq-eqb (num (orderOf d) 4 f (q + 3)) v a, eq-eqb (num (orderOf d) (d .rwidth) f (q + 7)) x b, lt-leb (q + h + lenAt f d q) (length f) e)
+        pub rec-kind : q + h + lenAt f d q ≤ length f → cond (kindOk f (q + h) (kindAt f d q) (lenAt f d q)) (h + lenAt f d q) 0 ≡ size
+        unfolding recordOk
+        rec-kind e = rw (le-leb (q + h) (length f) c, g, a, le-leb (q + h + lenAt f d q) (length f) e)
 
-          pub rec-kind : q + h + lenAt f d q ≤ length f → cond (kindOk f (q + h) (kindAt f d q) (lenAt f d q)) (h + lenAt f d q) 0 ≡ size
-          unfolding recordOk
-          rec-kind e =
-              rw (le-leb (q + h) (length f) c, g, eq-eqb (num (orderOf d) 4 f (q + 3)) v a, eq-eqb (num (orderOf d) (d .rwidth) f (q + 7)) x b, le-leb (q + h + lenAt f d q) (length f) e)
-
-          -- the same of numbers in hand
-          pub rec-is : (n k : ℕ) → n ≡ lenAt f d q → k ≡ kindAt f d q → q + h + n ≤ length f → (b : Bool) → b ≡ kindOk f (q + h) k n → cond b (h + n) 0 ≡ size
-          rec-is n k e i r b z =
-              ap (λ (y : Bool). cond y (h + n) 0) z
-              ∙ ap (λ (y : ℕ). cond (kindOk f (q + h) y n) (h + n) 0) i
-              ∙ ap (λ (y : ℕ). cond (kindOk f (q + h) (kindAt f d q) y) (h + y) 0) e
-              ∙ rec-kind (omega (arith, e))
+        -- the same of numbers in hand
+        pub rec-is : (n k : ℕ) → n ≡ lenAt f d q → k ≡ kindAt f d q → q + h + n ≤ length f → (b : Bool) → b ≡ kindOk f (q + h) k n → cond b (h + n) 0 ≡ size
+        rec-is n k e i r b z =
+            ap (λ (y : Bool). cond y (h + n) 0) z
+            ∙ ap (λ (y : ℕ). cond (kindOk f (q + h) y n) (h + n) 0) i
+            ∙ ap (λ (y : ℕ). cond (kindOk f (q + h) (kindAt f d q) y) (h + y) 0) e
+            ∙ rec-kind (omega (arith, e))
 
 -- ---- a record, in the grammar
 

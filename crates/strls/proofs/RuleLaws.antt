@@ -212,10 +212,9 @@ module _ (f : List ℕ) (d : Frame) (F : Framed f d) where
       let n = lenAt f d q in
       rw (tab-length n (λ i. getD f (q + headSize d + i) 0), zero-last n f (q + headSize d) (λ i. getD f (q + headSize d + i) 0) (λ i. refl))
 
-  shuffle : (a b c e : Bool) → ((a && b) && (c && e)) ≡ ((a && (b && c)) && e)
-  shuffle true true c e = refl
-  shuffle true false c e = refl
-  shuffle false b c e = refl
+  and-assoc : (a b c : Bool) → (a && (b && c)) ≡ ((a && b) && c)
+  and-assoc true b c = refl
+  and-assoc false b c = refl
 
   record-is : (q i j : ℕ) (S : List (ℕ × ℕ)) (L : List LongString) → longNext (d .tagged) f q ≡ true → q + headSize d + lenAt f d q ≤ length f
       → recordRule ((i, j) ∷ S) (longAt f d q ∷ L) ≡ (recordOk f d q i j && recordRule S L)
@@ -223,8 +222,9 @@ module _ (f : List ℕ) (d : Frame) (F : Framed f d) where
   record-is q i j S L g h =
       let v = num (orderOf d) 4 f (q + 3) in
       let x = num (orderOf d) (d .rwidth) f (q + 7) in
-      rw (le-leb (q + headSize d) (length f) (omega arith), g, le-leb (q + headSize d + lenAt f d q) (length f) h, ← kind-is q, eqb-sym i v, eqb-sym j x)
-      (shuffle (eqb v i) (eqb x j) (kindRule (longAt f d q)) (recordRule S L))
+      let r : q + 3 + 4 ≡ q + 7 = omega arith in
+      rw (r, le-leb (q + headSize d) (length f) (omega arith), g, le-leb (q + headSize d + lenAt f d q) (length f) h, ← kind-is q, eqb-sym i v, eqb-sym j x)
+      (and-assoc (eqb v i && eqb x j) (kindRule (longAt f d q)) (recordRule S L))
 
   -- what is left after a step: it went on, and the rest is judged by the records that are left; or it broke
   data After (s : Step) (b : List (ℕ × ℕ) → Bool) : Type 0 where

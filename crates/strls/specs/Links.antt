@@ -15,7 +15,7 @@ use Rattle.codes.specs.declared.Kind.the-variants.{Text, StrL, Byte, Int, Long,
 use Rattle.section.specs.declared.Step.{Step}
 use Rattle.data.specs.Places.{fieldAt, offAt, place, Typed}
 use Rattle.strls.specs.declared.Frame.{Frame}
-use Rattle.strls.specs.Records.{orderOf, recordSize}
+use Rattle.strls.specs.Records.{orderOf, pairAt, recordSize}
 
 -- the kind is strL
 abbrev pub strL : Kind → Bool
@@ -68,7 +68,7 @@ module _ (f : List ℕ) (d : Frame) where
 
   -- the strL cell at p is the reference (v, x)
   abbrev pub linkAt : ℕ → ℕ → ℕ → Bool
-  linkAt p v x = eqb (num (orderOf d) (d .vwidth) f p) v && eqb (num (orderOf d) (d .owidth) f (p + d .vwidth)) x
+  linkAt p v x = pairAt (orderOf d) (d .vwidth) (d .owidth) f p v x
 
   -- cell (v, x) is there, is strL, and names itself
   unfoldable pub selfAt : ℕ → ℕ → Bool

@@ -25,6 +25,10 @@ longs d = walk (longNext (d .tagged)) (longRecord (d .tagged) (orderOf d) (d .rw
 abbrev pub kindOk : List ℕ → ℕ → ℕ → ℕ → Bool
 kindOk f p kind n = eqb kind 129 || (eqb kind 130 && (leb 2 n && eqb (suc (length (textAt n f p))) n))
 
+-- the numbers of vw and of ow bytes at p are v and x
+abbrev pub pairAt : Order → ℕ → ℕ → List ℕ → ℕ → ℕ → ℕ → Bool
+pairAt o vw ow f p v x = eqb (num o vw f p) v && eqb (num o ow f (p + vw)) x
+
 module _ (f : List ℕ) (d : Frame) where
   -- the kind of the record at q, and the length of its contents
   abbrev pub kindAt : ℕ → ℕ
@@ -38,9 +42,8 @@ module _ (f : List ℕ) (d : Frame) where
   recordOk q v x =
       leb (q + headSize d) (length f)
       && (longNext (d .tagged) f q
-      && (eqb (num (orderOf d) 4 f (q + 3)) v
-      && (eqb (num (orderOf d) (d .rwidth) f (q + 7)) x
-      && (leb (q + headSize d + lenAt q) (length f) && kindOk f (q + headSize d) (kindAt q) (lenAt q)))))
+      && (pairAt (orderOf d) 4 (d .rwidth) f (q + 3) v x
+      && (leb (q + headSize d + lenAt q) (length f) && kindOk f (q + headSize d) (kindAt q) (lenAt q))))
 
   -- its size, 0 where there is none
   abbrev pub recordSize : ℕ → ℕ → ℕ → ℕ

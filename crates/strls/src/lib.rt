@@ -4,10 +4,11 @@ ghost use mathlib.Core.Path.{_≡_};
 ghost use mathlib.Core.Bool.{true, cond};
 ghost use Prim.Native.Nat.{_+_, _*_, _<_, _≤_};
 ghost use lib.ListN.{length};
+ghost use Rattle.format.specs.Number.{orderBy};
 ghost use Rattle.format.specs.Data.{longNext, longRecord, strls};
 ghost use Rattle.section.specs.Judged.{Judged};
-ghost use Rattle.strls.specs.Records.{orderOf, longs, kindOk, recordSize};
-ghost use Rattle.strls.specs.Links.{earlier, placeOf, isLong, linkAt, selfAt, linkOk, cellStep, rowRun, dataRun, rule11, Framed, Offsets, Nexts, Tabled, cellsOf, Ran};
+ghost use Rattle.strls.specs.Records.{orderOf, longs, kindOk, pairAt, recordSize};
+ghost use Rattle.strls.specs.Links.{earlier, placeOf, isLong, linkAt, selfAt, linkOk, taken, cellStep, rowRun, dataRun, rule11, Framed, Offsets, Nexts, Tabled, cellsOf, Ran};
 
 // Where the type list and the data's first row stand, how many variables and observations there are, whether the edition has
 // tags, the byte order, and the widths of v and o in a cell and of o in a record.
@@ -34,7 +35,18 @@ fn gso_at(f: &[u8], p: usize, tagged: bool) -> bool
     if f.len() - p < 3 {
         return false;
     }
-    text::same_at(f, p, b"GSO")
+    (f[p] == 71) & (f[p + 1] == 83) & (f[p + 2] == 79)
+}
+
+// Whether the numbers of `vw` and of `ow` bytes at `p` are `v` and `o`. Where the widths are constants, each number is one load.
+fn pair_at(f: &[u8], p: usize, vw: usize, ow: usize, msf: bool, v: usize, o: usize) -> bool
+    requires { ⌜ (p + vw + ow ≤ length (now f)) × (vw ≤ 8) × (ow ≤ 8) ⌝ }
+    ensures { λ r. ⌜ r ≡ pairAt (orderBy msf) vw ow (now (f .entry)) p v o ⌝ }
+{
+    if number::number(f, p, vw, msf) != v as u64 {
+        return false;
+    }
+    number::number(f, p + vw, ow, msf) == o as u64
 }
 
 // The record at `q`: whether it is whole.
@@ -89,6 +101,17 @@ fn kind_ok(f: &[u8], p: usize, kind: u64, n: usize) -> bool
     text::text_len(f, p, n) + 1 == n
 }
 
+// Whether a record whose numbers start at `p` is that of (`v`, `o`).
+fn named_at(f: &[u8], d: Frame, p: usize, v: usize, o: usize) -> bool
+    requires { ⌜ (p + 4 + d .rwidth ≤ length (now f)) × (d .rwidth ≤ 8) ⌝ }
+    ensures { λ r. ⌜ r ≡ pairAt (orderOf d) 4 (d .rwidth) (now (f .entry)) p v o ⌝ }
+{
+    if d.rwidth == 4 {
+        return pair_at(f, p, 4, 4, d.msf, v, o);
+    }
+    pair_at(f, p, 4, d.rwidth, d.msf, v, o)
+}
+
 // The size of the record of (`v`, `o`) at `q`, 0 where no right one is there.
 fn record_size(f: &[u8], d: Frame, q: usize, v: usize, o: usize) -> usize
     requires { ⌜ (q ≤ length (now f)) × (d .rwidth ≤ 8) ⌝ }
@@ -101,10 +124,7 @@ fn record_size(f: &[u8], d: Frame, q: usize, v: usize, o: usize) -> usize
     if !gso_at(f, q, d.tagged) {
         return 0;
     }
-    if number::number(f, q + 3, 4, d.msf) != v as u64 {
-        return 0;
-    }
-    if number::number(f, q + 7, d.rwidth, d.msf) != o as u64 {
+    if !named_at(f, d, q + 3, v, o) {
         return 0;
     }
     let n = number::number(f, q + (8 + d.rwidth), 4, d.msf) as usize;
@@ -177,10 +197,10 @@ fn link_at(f: &[u8], d: Frame, p: usize, v: usize, o: usize) -> bool
     requires { ⌜ (p + 8 ≤ length (now f)) × (d .vwidth + d .owidth ≡ 8) ⌝ }
     ensures { λ r. ⌜ r ≡ linkAt (now (f .entry)) d p v o ⌝ }
 {
-    if number::number(f, p, d.vwidth, d.msf) != v as u64 {
-        return false;
+    if d.vwidth == 4 {
+        return pair_at(f, p, 4, 4, d.msf, v, o);
     }
-    number::number(f, p + d.vwidth, d.owidth, d.msf) == o as u64
+    pair_at(f, p, d.vwidth, d.owidth, d.msf, v, o)
 }
 
 // Where the cell of variable `i` in observation `j` stands.
@@ -253,7 +273,19 @@ fn link_ok(
     names_itself(f, t, s, d, v, o)
 }
 
-// The strL variable `i` in observation `j`, where the record at `q` is due.
+// The record of (`v`, `o`), due at `q`.
+fn record_step(f: &[u8], d: Frame, q: usize, v: usize, o: usize) -> Step
+    requires { ⌜ (q ≤ length (now f)) × (d .rwidth ≤ 8) ⌝ }
+    ensures { λ r. ⌜ Ran (now (f .entry)) (taken q (recordSize (now (f .entry)) d q v o)) r ⌝ }
+{
+    let n = record_size(f, d, q, v, o);
+    if n == 0 {
+        return Step { code: 11, at: 0 };
+    }
+    Step { code: 0, at: q + n }
+}
+
+// The strL variable `i` in observation `j`, where the record at `q` is due. A cell that names itself is right: no other is looked at.
 fn cell_step(
     f: &[u8],
     t: &[u32; 32768],
@@ -267,17 +299,13 @@ fn cell_step(
     ensures { λ r. ⌜ Ran (now (f .entry)) (cellStep (now (f .entry)) d i j q) r ⌝ }
 {
     let p = place_of(f, t, s, d, i, j);
+    if link_at(f, d, p, i + 1, j + 1) {
+        return record_step(f, d, q, i + 1, j + 1);
+    }
     if !link_ok(f, t, s, d, p, i, j) {
         return Step { code: 11, at: 0 };
     }
-    if !link_at(f, d, p, i + 1, j + 1) {
-        return Step { code: 0, at: q };
-    }
-    let n = record_size(f, d, q, i + 1, j + 1);
-    if n == 0 {
-        return Step { code: 11, at: 0 };
-    }
-    Step { code: 0, at: q + n }
+    Step { code: 0, at: q }
 }
 
 // The strL cells of observation `j`.

@@ -1,28 +1,23 @@
-use mathlib.Core.Path.{sym, ap, _∙_}
-use Prim.Native.Nat.{ℕ}
-use lib.Dec.{eqb}
-use Rattle.strls.proofs.LinkLaws.{linkat-no, linkat-yes}
+use Rattle.strls.specs.Records.{orderOf}
+use mathlib.Core.Path.{_∙_}
+use native.Mathlib.Omega.{arith}
+use Rattle.strls.proofs.RecordLaws.{pair-fours}
 use borrow.Author.Needs.{needs}
 use Rattle.strls.proofs.link_at.Statement.{statement}
 use Rattle.strls.proofs.link_at.Tie as tie
 
-number-requires : tie.Need-number-requires
-number-requires c κs = search needs
+pair-at-requires : tie.Need-pair-at-requires
+pair-at-requires c κs = search needs
 
 returns : tie.Need-returns
 returns c =
-    let a = c .before .before .before .args in linkat-no (a .f .now) (a .d) (a .p) (a .v) (a .o) (λ z. c .if1 .taken (c .before .number .ensures .is ∙ z))
+    let a = c .before .before .before .before .args in c .pair-at .ensures ∙ pair-fours (orderOf (a .d)) (a .f .now) (a .p) (a .v) (a .o) (a .d .vwidth) (a .d .owidth) (c .before .if1 .taken) (omega arith)
 
-add-number : tie.Need-add-number
-add-number c = search needs
-
-number-requires-2 : tie.Need-number-requires-2
-number-requires-2 c κs = search needs
+pair-at-requires-2 : tie.Need-pair-at-requires-2
+pair-at-requires-2 c κs = search needs
 
 returns-2 : tie.Need-returns-2
-returns-2 c =
-    let a = c .before .before .before .before .before .args in
-    ap (λ (x : ℕ). eqb x (a .o)) (c .number2 .ensures .is) ∙ linkat-yes (a .f .now) (a .d) (a .p) (a .v) (a .o) (sym (c .before .before .before .number .ensures .is) ∙ c .before .before .if1 .left)
+returns-2 c = search needs
 
 pub link-at-spec : {M : Type 1} → statement M
-link-at-spec = tie.close (tie.spec number-requires returns add-number number-requires-2 returns-2)
+link-at-spec = tie.close (tie.spec pair-at-requires returns pair-at-requires-2 returns-2)
