@@ -2,7 +2,6 @@
 use mathlib.Core.Path.{_≡_, refl, sym, ap, _∙_, subst}
 use Prim.Native.Nat.{ℕ, zero, suc, _+_, _≤_, _<_}
 use native.Mathlib.Omega.{arith}
-use native.Mathlib.Numerals.{add-one}
 use mathlib.Core.List.{List}
 use mathlib.Core.Bool.{Bool, true, false, cond, and-false, _&&_}
 use lib.ListN.{length, getD, List·getD-eq-default}
@@ -71,8 +70,8 @@ module _ (f : List ℕ) (p kind n : ℕ) where
   pub kind-short : (kind ≡ 129 → ⊥) → kind ≡ 130 → n < 2 → false ≡ kindOk f p kind n
   kind-short a b h = rw (ne-eqb kind 129 a, eq-eqb kind 130 b, lt-leb 2 n h)
 
-  pub kind-text : (kind ≡ 129 → ⊥) → kind ≡ 130 → 2 ≤ n → (m : ℕ) → m ≡ length (textAt n f p) → eqb (m + 1) n ≡ kindOk f p kind n
-  kind-text a b h m e = rw (ne-eqb kind 129 a, eq-eqb kind 130 b, le-leb 2 n h, e, add-one (length (textAt n f p)))
+  pub kind-text : (kind ≡ 129 → ⊥) → kind ≡ 130 → 2 ≤ n → eqb (suc (length (textAt n f p))) n ≡ kindOk f p kind n
+  kind-text a b h = rw (ne-eqb kind 129 a, eq-eqb kind 130 b, le-leb 2 n h)
 
 -- ---- the record of a cell
 

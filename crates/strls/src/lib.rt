@@ -98,7 +98,7 @@ fn kind_ok(f: &[u8], p: usize, kind: u64, n: usize) -> bool
     if n < 2 {
         return false;
     }
-    text::text_len(f, p, n) + 1 == n
+    text::zero_last(f, p, n)
 }
 
 // Whether a record whose numbers start at `p` is that of (`v`, `o`).

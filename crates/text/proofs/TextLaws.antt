@@ -5,11 +5,11 @@ use native.Mathlib.Omega.{arith}
 use native.Mathlib.Nat.{add-zero, zero-add, add-suc, sub-zero}
 use native.Mathlib.Numerals.{add-one}
 use mathlib.Core.List.{List, [], _∷_, _++_}
-use mathlib.Core.Bool.{Bool, true, false, _||_, true≢false}
+use mathlib.Core.Bool.{Bool, true, false, not, _&&_, _||_, and-false, true≢false}
 use lib.ListN.{length, getD, take, drop, replicate, length-drop, drop-of-length-le}
 use lib.Seq.{drop-cons, take-suc, getD-take, getD-drop, length-take-le, ext-getD}
 use lib.Dec.{eqb}
-use borrow.Author.Tests.{eq-eqb, ne-eqb, eqb-false, le-leb, lt-leb}
+use borrow.Author.Tests.{eq-eqb, ne-eqb, eqb-true, eqb-false, le-leb, lt-leb}
 use Rattle.format.specs.Slot.{fill}
 use Rattle.format.specs.Grammar.{unless, textAt, textSlots, raw, sameAt, tag}
 use Rattle.format.proofs.SlotLaws.{length-tab, getD-tab}
@@ -23,6 +23,18 @@ left n i b = omega arith
 or-false : (a b : Bool) → (a || b) ≡ false → (a ≡ false) × (b ≡ false)
 or-false true b e = absurd (true≢false e)
 or-false false b e = (refl, e)
+
+or-none : (a : Bool) → (a || false) ≡ a
+or-none true = refl
+or-none false = refl
+
+or-true : (a : Bool) → (a || true) ≡ true
+or-true true = refl
+or-true false = refl
+
+or-assoc : (a b c : Bool) → ((a || b) || c) ≡ (a || (b || c))
+or-assoc true b c = refl
+or-assoc false b c = refl
 
 -- ---- the search for a text's end
 
@@ -50,14 +62,32 @@ module _ (f : List ℕ) (p : ℕ) where
   unfolding hasZero
   zero-turn k = rw add-one
 
+  -- m bytes and b more
+  zero-join : (m b : ℕ) → hasZero (m + b) f p ≡ (hasZero m f p || hasZero b f (p + m))
+  unfolding hasZero
+  zero-join m zero = rw add-zero (sym (or-none (hasZero m f p)))
+  zero-join m (suc b) =
+      let g : p + (m + b) ≡ p + m + b = omega arith in
+      rw (add-suc, zero-join m b, g) (or-assoc (hasZero m f p) (hasZero b f (p + m)) (eqb (getD f (p + m + b) 0) 0))
+
   -- one block more
   pub zero-block : (m b : ℕ) → hasZero m f p ≡ false → hasZero b f (p + m) ≡ false → hasZero (m + b) f p ≡ false
-  unfolding hasZero
-  zero-block m zero h z = rw add-zero h
-  zero-block m (suc b) h z =
-      let o = or-false (hasZero b f (p + m)) (eqb (getD f (p + m + b) 0) 0) z in
-      let g : p + (m + b) ≡ p + m + b = omega arith in
-      rw (add-suc, zero-block m b h (o .0), g) (o .1)
+  zero-block m b h z = zero-join m b ∙ rw (h, z)
+
+  -- a block with a zero
+  pub zero-found : (n m b : ℕ) → m + b ≤ n → hasZero b f (p + m) ≡ true → true ≡ hasZero n f p
+  zero-found n m b h z =
+      let e : n ≡ m + b + (n - (m + b)) = omega arith in
+      let s : hasZero (m + b) f p ≡ true = zero-join m b ∙ rw z (or-true (hasZero m f p)) in
+      sym (ap (λ (k : ℕ). hasZero k f p) e ∙ zero-join (m + b) (n - (m + b)) ∙ rw s)
+
+  -- the last block, which starts at e, where the first m bytes have none
+  pub zero-end : (n m b e : ℕ) → n ≡ e + b → e ≤ m → hasZero m f p ≡ false → hasZero b f (p + e) ≡ hasZero n f p
+  zero-end n m b e s h z =
+      let g : m ≡ e + (m - e) = omega arith in
+      let o = or-false (hasZero e f p) (hasZero (m - e) f (p + e)) (sym (zero-join e (m - e)) ∙ ap (λ (k : ℕ). hasZero k f p) (sym g) ∙ z) in
+      let j : hasZero (e + b) f p ≡ hasZero b f (p + e) = zero-join e b ∙ rw (o .0) in
+      sym (ap (λ (k : ℕ). hasZero k f p) s ∙ j)
 
   -- past bytes without a zero the text goes on
   pub zero-past : (w n : ℕ) → n ≤ w → hasZero n f p ≡ false → n + length (textAt (w - n) f (p + n)) ≡ length (textAt w f p)
@@ -66,6 +96,40 @@ module _ (f : List ℕ) (p : ℕ) where
   zero-past w (suc n) b h =
       let o = or-false (hasZero n f p) (eqb (getD f (p + n) 0) 0) h in
       rw (← add-one n) (omega (arith, zero-past w n (omega arith) (o .0), text-turn w f p n (omega arith) (eqb-false (getD f (p + n) 0) 0 (o .1))))
+
+  short-turn : (w m : ℕ) → suc m ≤ w → (t : Bool) → hasZero m f p ≡ t → (hasZero m f p || eqb (getD f (p + m) 0) 0) ≡ true
+      → (hasZero m f p ≡ true → length (textAt w f p) < m) → length (textAt w f p) < suc m
+  short-turn w m b true e h k = omega (arith, k e)
+  short-turn w m b false e h k =
+      let z : eqb (getD f (p + m) 0) 0 ≡ true = rw e at h in
+      omega (arith, zero-past w m (omega arith) e, text-stop w f p m (omega arith) (eqb-true (getD f (p + m) 0) 0 z))
+
+  -- a text ends before any zero
+  zero-short : (w m : ℕ) → m ≤ w → hasZero m f p ≡ true → length (textAt w f p) < m
+  unfolding hasZero
+  zero-short w zero b h = absurd (true≢false (sym h))
+  zero-short w (suc m) b h = short-turn w m b (hasZero m f p) refl h (zero-short w m (omega arith))
+
+-- ---- the last byte, after m others
+
+module _ (f : List ℕ) (p n m : ℕ) (e : n ≡ m + 1) where
+  abbrev long : ℕ
+  long = length (textAt n f p)
+
+  last-early : hasZero m f p ≡ true → (t : Bool) → (t && false) ≡ eqb (suc long) n
+  last-early h t = rw and-false (sym (ne-eqb (suc long) n (λ z. (let y : suc long ≡ n = z in omega (arith, zero-short f p n m (omega arith) h)))))
+
+  last-here : hasZero m f p ≡ false → (t : Bool) → eqb (getD f (p + m) 0) 0 ≡ t → (t && true) ≡ eqb (suc long) n
+  last-here h true q =
+      sym (eq-eqb (suc long) n (omega (arith, zero-past f p n m (omega arith) h, text-stop n f p m (omega arith) (eqb-true (getD f (p + m) 0) 0 q))))
+  last-here h false q =
+      let k = text-turn n f p m (omega arith) (eqb-false (getD f (p + m) 0) 0 q) in
+      let l = zero-past f p n m (omega arith) h in
+      sym (ne-eqb (suc long) n (λ z. (let y : suc long ≡ n = z in omega (arith, k, l))))
+
+  pub last-is : (z : Bool) → z ≡ hasZero m f p → (eqb (getD f (p + m) 0) 0 && not z) ≡ eqb (suc long) n
+  last-is true h = last-early (sym h) (eqb (getD f (p + m) 0) 0)
+  last-is false h = last-here (sym h) (eqb (getD f (p + m) 0) 0) refl
 
 -- ---- the bytes of a file at a place
 

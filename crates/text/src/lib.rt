@@ -1,8 +1,9 @@
 ghost use mathlib.Core.Path.{_≡_};
 ghost use mathlib.Core.List.{_++_};
 ghost use mathlib.Core.Bool.{false};
-ghost use Prim.Native.Nat.{ℕ, _+_, _≤_, _<_};
+ghost use Prim.Native.Nat.{ℕ, suc, _+_, _≤_, _<_};
 ghost use lib.ListN.{length, take, drop, replicate};
+ghost use lib.Dec.{eqb};
 ghost use Rattle.format.specs.Slot.{fill};
 ghost use Rattle.format.specs.Grammar.{textAt, textSlots, sameAt, tag};
 ghost use Rattle.text.specs.Texts.{IsTextLength, hasZero};
@@ -64,6 +65,49 @@ pub fn text_len(f: &[u8], p: usize, w: usize) -> usize
         n += 1;
     }
     n
+}
+
+// Whether there is a zero among the `n` bytes at `p`, by blocks of `b` bytes. The last block ends with them, and may overlap the one before.
+fn zero_by(f: &[u8], p: usize, n: usize, b: usize) -> bool
+    requires { ⌜ (p + n ≤ length (now f)) × (0 < b) × (b ≤ n) ⌝ }
+    ensures { λ r. ⌜ r ≡ hasZero n (now (f .entry)) p ⌝ }
+{
+    let e = n - b;
+    let mut m: usize = 0;
+    while m < e {
+        if has_zero(f, p + m, b) {
+            return true;
+        }
+        m += b;
+    }
+    has_zero(f, p + e, b)
+}
+
+// Whether there is a zero among the `n` bytes at `p`.
+fn zero_in(f: &[u8], p: usize, n: usize) -> bool
+    requires { ⌜ p + n ≤ length (now f) ⌝ }
+    ensures { λ r. ⌜ r ≡ hasZero n (now (f .entry)) p ⌝ }
+{
+    if n < 8 {
+        return has_zero(f, p, n);
+    }
+    if n < 32 {
+        return zero_by(f, p, n, 8);
+    }
+    if n < 64 {
+        return zero_by(f, p, n, 32);
+    }
+    zero_by(f, p, n, 64)
+}
+
+// Whether the text in the field of `n` bytes at `p` is one byte shorter than the field: the last byte is a zero, and no other is.
+pub fn zero_last(f: &[u8], p: usize, n: usize) -> bool
+    requires { ⌜ (p + n ≤ length (now f)) × (0 < n) ⌝ }
+    ensures { λ r. ⌜ r ≡ eqb (suc (length (textAt n (now (f .entry)) p))) n ⌝ }
+{
+    let m = n - 1;
+    let z = zero_in(f, p, m);
+    (f[p + m] == 0) & !z
 }
 
 // Copies the `m` bytes of `f` at `p` to the start of `out`.

@@ -1,3 +1,4 @@
+use mathlib.Core.Path.{_∙_}
 use native.Mathlib.Omega.{arith}
 use Rattle.strls.proofs.RecordLaws.{kind-any, kind-none, kind-short, kind-text}
 use borrow.Author.Needs.{needs}
@@ -16,16 +17,13 @@ returns-3 : tie.Need-returns-3
 returns-3 c =
     let a = c .before .before .before .before .args in kind-short (a .f .now) (a .p) (a .kind) (a .n) (c .before .before .if1 .left) (c .before .if2 .left) (omega arith)
 
-text-len-requires : tie.Need-text-len-requires
-text-len-requires c κs = search needs
-
-add-result : tie.Need-add-result
-add-result c = search needs
+zero-last-requires : tie.Need-zero-last-requires
+zero-last-requires c κs = search needs
 
 returns-4 : tie.Need-returns-4
 returns-4 c =
-    let a = c .before .before .before .before .before .args in kind-text (a .f .now) (a .p) (a .kind) (a .n) (c .before .before .before .if1 .left) (c .before .before .if2 .left) (omega arith) (c .text-len .result) (c .text-len .ensures .is)
+    let a = c .before .before .before .before .before .args in c .zero-last .ensures ∙ kind-text (a .f .now) (a .p) (a .kind) (a .n) (c .before .before .before .if1 .left) (c .before .before .if2 .left) (omega arith)
 
 pub kind-ok-spec : {M : Type 1} → statement M
 kind-ok-spec =
-    tie.close (tie.spec returns returns-2 returns-3 text-len-requires add-result returns-4)
+    tie.close (tie.spec returns returns-2 returns-3 zero-last-requires returns-4)
