@@ -3,5 +3,6 @@ pub mod WalkLaws
 pub mod TableLaws
 pub mod LinkLaws
 pub mod PassLaws
+pub mod EndLaws
 pub mod RuleLaws
 pub mod StrlLaws

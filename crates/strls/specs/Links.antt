@@ -13,9 +13,10 @@ use Rattle.format.specs.Data.{Cell, cell, longNext}
 use Rattle.codes.specs.declared.Kind.{Kind}
 use Rattle.codes.specs.declared.Kind.the-variants.{Text, StrL, Byte, Int, Long, Float, Double, Unknown}
 use Rattle.section.specs.declared.Step.{Step}
+use Rattle.section.specs.Judged.{Judged}
 use Rattle.data.specs.Places.{fieldAt, offAt, place, Typed}
 use Rattle.strls.specs.declared.Frame.{Frame}
-use Rattle.strls.specs.Records.{orderOf, pairAt, recordSize}
+use Rattle.strls.specs.Records.{orderOf, longs, pairAt, recordSize}
 
 -- the kind is strL
 abbrev pub strL : Kind → Bool
@@ -137,6 +138,11 @@ module _ (f : List ℕ) (d : Frame) where
   unfoldable pub cellsOf : List (List Cell)
   cellsOf =
       readTimes (row (cell (orderOf d) (d .vwidth) (d .owidth)) (readTimes (typeCode (d .tagged) (orderOf d)) (d .k) f (d .types))) (d .n) f (d .data)
+
+-- r is number 11's answer with the records from q on; where it does not refuse, these are right and end at its place
+pub record Passed (f : List ℕ) (d : Frame) (q : ℕ) (r : Step) : Type 0 where
+  pub code : r .code ≡ rule11 f d q
+  pub ends : r .code ≡ 0 → Judged (longs d) f q r
 
 -- r is the step s, which stays in the file
 pub record Ran (f : List ℕ) (s r : Step) : Type 0 where

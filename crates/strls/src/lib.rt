@@ -8,7 +8,7 @@ ghost use Rattle.format.specs.Number.{orderBy};
 ghost use Rattle.format.specs.Data.{longNext, longRecord, strls};
 ghost use Rattle.section.specs.Judged.{Judged};
 ghost use Rattle.strls.specs.Records.{orderOf, longs, kindOk, pairAt, recordSize};
-ghost use Rattle.strls.specs.Links.{earlier, placeOf, isLong, linkAt, selfAt, linkOk, taken, cellStep, rowRun, dataRun, rule11, Framed, Offsets, Nexts, Tabled, cellsOf, Ran};
+ghost use Rattle.strls.specs.Links.{earlier, placeOf, isLong, linkAt, selfAt, linkOk, taken, cellStep, rowRun, dataRun, Passed, Framed, Offsets, Nexts, Tabled, cellsOf, Ran};
 
 // Where the type list and the data's first row stand, how many variables and observations there are, whether the edition has
 // tags, the byte order, and the widths of v and o in a cell and of o in a record.
@@ -348,10 +348,10 @@ fn data_run(f: &[u8], t: &[u32; 32768], s: &[u16; 32768], d: Frame, start: usize
     Step { code: 0, at: q }
 }
 
-// Number 11: the references, and the records from `start` on.
-fn rule_11(f: &[u8], d: Frame, start: usize) -> u8
+// Number 11: the references, and the records from `start` on. Where it does not refuse, it has passed all records.
+fn rule_11(f: &[u8], d: Frame, start: usize) -> Step
     requires { ⌜ Framed (now f) d × (start ≤ length (now f)) ⌝ }
-    ensures { λ r. ⌜ r ≡ rule11 (now (f .entry)) d start ⌝ }
+    ensures { λ r. ⌜ Passed (now (f .entry)) d start r ⌝ }
 {
     let mut t = [0u32; 32768];
     fill_offsets(&mut t, f, d);
@@ -359,9 +359,26 @@ fn rule_11(f: &[u8], d: Frame, start: usize) -> u8
     fill_nexts(&mut s, f, d);
     let c = data_run(f, &t, &s, d, start);
     if c.code != 0 {
-        return 11;
+        return Step {
+            code: 11,
+            at: start,
+        };
     }
-    if gso_at(f, c.at, d.tagged) { 11 } else { 0 }
+    if gso_at(f, c.at, d.tagged) {
+        return Step { code: 11, at: c.at };
+    }
+    Step { code: 0, at: c.at }
+}
+
+// The records from `start` on, of which number 11 says `c`. Only where it refuses are they walked over: 3 comes before 11.
+fn records_by(f: &[u8], d: Frame, start: usize, c: Step) -> Step
+    requires { ⌜ (start ≤ length (now f)) × (d .rwidth ≤ 8) × Passed (now f) d start c ⌝ }
+    ensures { λ r. ⌜ Judged (longs d) (now (f .entry)) start r ⌝ }
+{
+    if c.code == 0 {
+        return c;
+    }
+    records(f, d, start)
 }
 
 // The long strings at `p`: the records, then number 11, then the closing tag. An untagged edition has none.
@@ -376,10 +393,10 @@ pub fn strl_list(f: &[u8], p: usize, d: Frame) -> Step
     if a.code != 0 {
         return a;
     }
-    let e = records(f, d, a.at);
+    let c = rule_11(f, d, a.at);
+    let e = records_by(f, d, a.at, c);
     if e.code != 0 {
         return e;
     }
-    let c = rule_11(f, d, a.at);
-    section::closed(f, e.at, c, b"</strls>", d.tagged)
+    section::closed(f, e.at, c.code, b"</strls>", d.tagged)
 }

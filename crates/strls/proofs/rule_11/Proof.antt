@@ -3,6 +3,8 @@ use mathlib.Core.Bool.{Bool, cond}
 use Prim.Native.Nat.{ℕ}
 use lib.ListN.{length-replicate}
 use Rattle.strls.proofs.PassLaws.{end-broken, end-at}
+use Rattle.strls.proofs.EndLaws.{passed-not, passed-all}
+use borrow.Author.Needs.{needs}
 use Rattle.strls.proofs.rule_11.Statement.{statement}
 use Rattle.strls.proofs.rule_11.Tie as tie
 
@@ -20,7 +22,11 @@ data-run-requires c κs =
 
 returns : tie.Need-returns
 returns c =
-    end-broken (c .before .before .before .before .before .before .before .before .before .before .args .f .now) (c .before .before .before .before .before .before .before .before .before .before .args .d) (c .before .before .before .before .before .before .before .before .before .before .args .start) (c .before .before .data-run .result) (c .before .before .data-run .ensures .is) (c .if1 .taken)
+    let a = c .before .before .before .before .before .before .before .before .before .before .args in
+    let f = a .f .now in
+    let r = c .before .before .data-run .result in
+    let e = c .before .before .data-run .ensures .is in
+    passed-not f (a .d) (a .start) (a .start) (end-broken f (a .d) (a .start) r e (c .if1 .taken))
 
 gso-at-requires : tie.Need-gso-at-requires
 gso-at-requires c κs =
@@ -28,11 +34,21 @@ gso-at-requires c κs =
 
 returns-2 : tie.Need-returns-2
 returns-2 c =
-    ap (λ (b : Bool). cond b 11 0) (sym (c .if2 .taken)) ∙ end-at (c .before .before .before .before .before .before .before .before .before .before .before .before .args .f .now) (c .before .before .before .before .before .before .before .before .before .before .before .before .args .d) (c .before .before .before .before .before .before .before .before .before .before .before .before .args .start) (c .before .before .before .before .data-run .result) (c .before .before .before .before .data-run .ensures .is) (c .before .before .if1 .left) (c .before .gso-at .result) (c .before .gso-at .ensures)
+    let a = c .before .before .before .before .before .before .before .before .before .before .before .before .args in
+    let f = a .f .now in
+    let r = c .before .before .before .before .data-run .result in
+    let e = c .before .before .before .before .data-run .ensures .is in
+    let g = end-at f (a .d) (a .start) r e (c .before .before .if1 .left) (c .before .gso-at .result) (c .before .gso-at .ensures) in
+    passed-not f (a .d) (a .start) (r .at) (ap (λ (b : Bool). cond b 11 0) (sym (c .if2 .taken)) ∙ g)
 
 returns-3 : tie.Need-returns-3
 returns-3 c =
-    ap (λ (b : Bool). cond b 11 0) (sym (c .if2 .left)) ∙ end-at (c .before .before .before .before .before .before .before .before .before .before .before .before .args .f .now) (c .before .before .before .before .before .before .before .before .before .before .before .before .args .d) (c .before .before .before .before .before .before .before .before .before .before .before .before .args .start) (c .before .before .before .before .data-run .result) (c .before .before .before .before .data-run .ensures .is) (c .before .before .if1 .left) (c .before .gso-at .result) (c .before .gso-at .ensures)
+    let a = c .before .before .before .before .before .before .before .before .before .before .before .before .args in
+    let f = a .f .now in
+    let r = c .before .before .before .before .data-run .result in
+    let e = c .before .before .before .before .data-run .ensures .is in
+    let g = end-at f (a .d) (a .start) r e (c .before .before .if1 .left) (c .before .gso-at .result) (c .before .gso-at .ensures) in
+    passed-all f (a .d) (a .start) (c .before .before .before .before .before .before .before .before .before .before .before .before .pre .1) r e (c .before .before .if1 .left) (sym (c .before .gso-at .ensures) ∙ c .if2 .left) (ap (λ (b : Bool). cond b 11 0) (sym (c .if2 .left)) ∙ g)
 
 pub rule-11-spec : {M : Type 1} → statement M
 rule-11-spec =

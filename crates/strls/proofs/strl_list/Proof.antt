@@ -25,28 +25,28 @@ returns-2 c =
     let A = first-by f (a .d) (a .p) (c .before .before .tag-if .result) (c .before .before .tag-if .ensures) in
     first-refused f (a .d) F (a .p) A (c .if2 .taken)
 
-records-requires : tie.Need-records-requires
-records-requires c κs =
-    (c .before .before .tag-if .ensures .inside, c .before .before .before .before .before .before .before .pre .0 .record-small)
+rule-11-requires : tie.Need-rule-11-requires
+rule-11-requires c κs =
+    (c .before .before .before .before .before .before .before .pre .0, c .before .before .tag-if .ensures .inside)
+
+records-by-requires : tie.Need-records-by-requires
+records-by-requires c κs =
+    (c .before .before .before .tag-if .ensures .inside, c .before .before .before .before .before .before .before .before .pre .0 .record-small, c .rule-11 .ensures)
 
 returns-3 : tie.Need-returns-3
 returns-3 c =
-    let a = c .before .before .before .before .before .before .before .before .before .before .args in
+    let a = c .before .before .before .before .before .before .before .before .before .before .before .args in
     let f = a .f .now in
-    let F = c .before .before .before .before .before .before .before .before .before .before .pre .0 in
-    let A = first-by f (a .d) (a .p) (c .before .before .before .before .before .tag-if .result) (c .before .before .before .before .before .tag-if .ensures) in
-    records-refused f (a .d) F (a .p) A (c .before .before .before .if2 .left) (c .before .before .records .ensures) (c .if3 .taken)
-
-rule-11-requires : tie.Need-rule-11-requires
-rule-11-requires c κs =
-    (c .before .before .before .before .before .before .before .before .before .before .pre .0, c .before .before .before .before .before .tag-if .ensures .inside)
+    let F = c .before .before .before .before .before .before .before .before .before .before .before .pre .0 in
+    let A = first-by f (a .d) (a .p) (c .before .before .before .before .before .before .tag-if .result) (c .before .before .before .before .before .before .tag-if .ensures) in
+    records-refused f (a .d) F (a .p) A (c .before .before .before .before .if2 .left) (c .before .before .records-by .ensures) (c .if3 .taken)
 
 slice-aggregate-closed : tie.Need-slice-aggregate-closed
 slice-aggregate-closed c = search needs
 
 closed-requires : tie.Need-closed-requires
 closed-requires c κs =
-    c .before .before .before .before .records .ensures .inside
+    c .before .before .before .records-by .ensures .inside
 
 returns-4 : tie.Need-returns-4
 returns-4 c =
@@ -54,7 +54,7 @@ returns-4 c =
     let f = a .f .now in
     let F = c .before .before .before .before .before .before .before .before .before .before .before .before .before .pre .0 in
     let A = first-by f (a .d) (a .p) (c .before .before .before .before .before .before .before .before .tag-if .result) (c .before .before .before .before .before .before .before .before .tag-if .ensures) in
-    closed-judged f (a .d) F (a .p) A (c .before .before .before .before .before .before .if2 .left) (c .before .before .before .before .before .records .ensures) (c .before .before .before .if3 .left) (c .before .before .rule-11 .ensures) (c .closed .ensures)
+    closed-judged f (a .d) F (a .p) A (c .before .before .before .before .before .before .if2 .left) (c .before .before .before .before .records-by .ensures) (c .before .before .if3 .left) (c .before .before .before .before .before .rule-11 .ensures .code) (c .closed .ensures)
 
 pub strl-list-spec : {M : Type 1} → statement M
 strl-list-spec =
@@ -64,9 +64,9 @@ strl-list-spec =
     slice-aggregate-tag-if
     tag-if-requires
     returns-2
-    records-requires
-    returns-3
     rule-11-requires
+    records-by-requires
+    returns-3
     slice-aggregate-closed
     closed-requires
     returns-4)
