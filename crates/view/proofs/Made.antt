@@ -56,6 +56,10 @@ module _ {M : Type 1} (𝓤 : URA M) (H : Heap 𝓤) (A : Atoms 𝓤) where
   abbrev pub Make : Contract 𝓤
   Make = tripleOf 𝓤 H A (making .signature) (closing 𝓤 H A making (making-clauses 𝓤))
 
+-- a struct's value has the type of a local of a body
+pub local-typed : {M : Type 1} (𝓤 : URA M) (H : Heap 𝓤) (A : Atoms 𝓤) → Given 𝓤 H A → (κ : Lft) (r : View) (u : Val) → Is (B (κ, tt)) r (u ∷ []) → Holds (hasTy (T′.mir erased) u) × WT u
+local-typed 𝓤 H A W κ r u is = LL.lawful (T.the-type (record { mir = erased; lft = κ })) (T′.the-laws (record { mir = erased; lft = κ })) 𝓤 H A W .typed r (u ∷ []) is .0
+
 -- the call of `make` on the slice s and the layout l
 module _ (κ : Lft) (s : RefT (List ℕ)) (l : Layout) where
   -- the machine values, and what they own
@@ -76,22 +80,17 @@ module _ (κ : Lft) (s : RefT (List ℕ)) (l : Layout) where
   pub of-made : (r : View) (F : RefT (List ℕ) → Layout → Type 0) → Of r → F (r .file) (r .layout) → F s l
   of-made r F e h = subst (λ (z : Layout). F s z) (e .1) (subst (λ (f : RefT (List ℕ)). F f (r .layout)) (e .0) h)
 
-  module _ {M : Type 1} (𝓤 : URA M) (H : Heap 𝓤) (A : Atoms 𝓤) (W : Given 𝓤 H A) where
-    -- the struct's value has the type of a local of a body
-    pub local-typed : (r : View) (u : Val) → Is (B (κ, tt)) r (u ∷ []) → Holds (hasTy (T′.mir erased) u) × WT u
-    local-typed r u is = LL.lawful (T.the-type (record { mir = erased; lft = κ })) (T′.the-laws (record { mir = erased; lft = κ })) 𝓤 H A W .typed r (u ∷ []) is .0
+  module _ {M : Type 1} (𝓤 : URA M) (H : Heap 𝓤) (A : Atoms 𝓤) (W : Given 𝓤 H A) (q : Share) where
+    abbrev pub to-make : Make 𝓤 H A .Ghost
+    to-make = (((κ, tt), (q, tt), tt, (s, (l, tt)), (sᵛ ∷ [], (lᵛ ∷ [], tt))), tt)
 
-    module _ (q : Share) where
-      abbrev pub to-make : Make 𝓤 H A .Ghost
-      to-make = (((κ, tt), (q, tt), tt, (s, (l, tt)), (sᵛ ∷ [], (lᵛ ∷ [], tt))), tt)
-
-      -- what it asks; what the slice owns is had twice, and kept
-      pub goes-make : Is Y.the-row l (lᵛ ∷ []) → ent 𝓤 (⋆ 𝓤 H A (‵ Own ∷ (‵ (flft κ q) ⊛ ‵ ftrue) ∷ [])) (sep 𝓤 (Make 𝓤 H A .pre to-make) (sem 𝓤 H A Own))
-      goes-make laid =
-          qed W (‵ Own ∷ (‵ (flft κ q) ⊛ ‵ ftrue) ∷ []) ∵ use1 W (‵ Own ⊛ ‵ Own) (shr-slice-copy 𝓤 H A W (named 0) κ u8 .twice s (sᵛ ∷ [])) $ split ! $
-          -- [what s owns; the same; the token]
-          nothing ! $ owned ! Y.the-row (Is Y.the-row) (LL.makes Y.the-type Y′.the-plain 𝓤 H A) l _ laid $ fjoin ! $ move ! (1 ∷ 0 ∷ []) $ fjoin ! $
-          move ! (2 ∷ 0 ∷ []) $ use2 W (raw (Make 𝓤 H A .pre to-make)) (qed W ((‵ (flft κ q) ⊛ ‵ ftrue) ∷ ‵ (owns (ShrSlice (named 0) κ u8 ∷ Y.the-row ∷ []) (s, (l, tt)) (sᵛ ∷ [], (lᵛ ∷ [], tt))) ∷ []) ∵ join ! $ frame ! $ done !) $ frame ! $ done !
+    -- what it asks; what the slice owns is had twice, and kept
+    pub goes-make : Is Y.the-row l (lᵛ ∷ []) → ent 𝓤 (⋆ 𝓤 H A (‵ Own ∷ (‵ (flft κ q) ⊛ ‵ ftrue) ∷ [])) (sep 𝓤 (Make 𝓤 H A .pre to-make) (sem 𝓤 H A Own))
+    goes-make laid =
+        qed W (‵ Own ∷ (‵ (flft κ q) ⊛ ‵ ftrue) ∷ []) ∵ use1 W (‵ Own ⊛ ‵ Own) (shr-slice-copy 𝓤 H A W (named 0) κ u8 .twice s (sᵛ ∷ [])) $ split ! $
+        -- [what s owns; the same; the token]
+        nothing ! $ owned ! Y.the-row (Is Y.the-row) (LL.makes Y.the-type Y′.the-plain 𝓤 H A) l _ laid $ fjoin ! $ move ! (1 ∷ 0 ∷ []) $ fjoin ! $
+        move ! (2 ∷ 0 ∷ []) $ use2 W (raw (Make 𝓤 H A .pre to-make)) (qed W ((‵ (flft κ q) ⊛ ‵ ftrue) ∷ ‵ (owns (ShrSlice (named 0) κ u8 ∷ Y.the-row ∷ []) (s, (l, tt)) (sᵛ ∷ [], (lᵛ ∷ [], tt))) ∷ []) ∵ join ! $ frame ! $ done !) $ frame ! $ done !
 
 -- the walk of a question with one plain parameter
 module _ (X : RattleType) (P : Param X) (R : Lfts 1 → RattleType) (N : Result R) (Φ : (κs : Lfts 1) → RefT (List ℕ) → Layout → X .Denot → R κs .Denot → Type 0) where
@@ -171,7 +170,7 @@ module _ (X : RattleType) (P : Param X) (R : Lfts 1 → RattleType) (N : Result 
           calls-at ! fm (Make 𝓤 H A) known-make (to-make κ s l 𝓤 H A W q) (and-then ! (load ! (from ! (stop !)) (look ! 8 refl)) (and-then ! (load ! (from ! (stop !)) (look ! 6 refl)) (no-more !))) (λ u.
           returned (making .signature .params) (making .kept) B ! tt (making-clauses 𝓤) κ q (s, (l, tt)) (v ∷ [], (y ∷ [], tt)) tt (Of κ s l) (λ r _. id⊢ 𝓤 _) u (λ r e is.
           -- [what the struct owns; the token; what s owns; room for _4; …; _3; …; _2; …; _1; …; room for _0; …]
-          land ! (from ! (stop !)) (init ! 3 refl (local-typed κ s l 𝓤 H A W r u is)) $
+          land ! (from ! (stop !)) (init ! 3 refl (local-typed 𝓤 H A W κ r u is)) $
           use2 W (raw (Ask 𝓤 H A .pre (to-ask 𝓤 H A W κ q i r u))) (goes-ask 𝓤 H A W κ q i asks r u) $
           calls-at ! fm (Ask 𝓤 H A) known-ask (to-ask 𝓤 H A W κ q i r u) (and-then ! (load ! (from ! (stop !)) (look ! 2 refl)) (and-then ! (load ! (from ! (stop !)) (look ! 4 refl)) (no-more !))) (λ u′.
           returned (held .signature .params) (held .kept) R ! tt (held-clauses 𝓤) κ q (r, (i, tt)) (u ∷ [], (x ∷ [], tt)) tt (Φ (κ, tt) (r .file) (r .layout) i) (λ t _. id⊢ 𝓤 _) u′ (λ t e′ is′.

@@ -148,7 +148,7 @@ module _ {M : Type 1} (𝓤 : URA M) (H : Heap 𝓤) (A : Atoms 𝓤) (W : Given
         split ! $ move ! (1 ∷ []) $ heard ! (Seen r (ws .1 .0)) (λ e. fsplit ! $ move ! (1 ∷ []) $ fsplit ! $ move ! (3 ∷ []) $ split ! $ move ! (1 ∷ []) $
         -- [what the struct owns; the tokens; the last number; …; …; what file owns; _5; …; room for _4; …; _3; …; _2; …; _1; …; room for _0; …]
         peeks ! (B (κ, tt)) (Is (B (κ, tt))) (shows 𝓤 H A (B (κ, tt))) r (u ∷ []) (λ is.
-        land ! (from ! (stop !)) (init ! 8 refl (local-typed κ s (r .layout) 𝓤 H A W r u is)) $
+        land ! (from ! (stop !)) (init ! 8 refl (local-typed 𝓤 H A W κ r u is)) $
         use2 W (raw (Asks 𝓤 H A mem run .pre (to-ask Q.the-row question Answers answer Told 𝓤 H A W κ q i r u)) ⊛ ‵ (flft κ′ q′)) (goes asks r u) $ split ! $
         calls-at ! fm (Asks 𝓤 H A mem run) known-ask (to-ask Q.the-row question Answers answer Told 𝓤 H A W κ q i r u) (and-then ! (load ! (from ! (stop !)) (look ! 8 refl)) (and-then ! (load ! (from ! (stop !)) (look ! 10 refl)) (no-more !))) (λ u′.
         returned (held Q.the-row question Answers answer Told .signature .params) (held Q.the-row question Answers answer Told .kept) Answers ! tt (held-clauses Q.the-row question Answers answer Told 𝓤) κ q (r, (i, tt)) (u ∷ [], (y ∷ [], tt)) tt (Told (κ, tt) (r .file) (r .layout) i) (λ t _. id⊢ 𝓤 _) u′ (λ t e′ is′.
