@@ -78,7 +78,7 @@ fn asked(file: &[u8], layout: &[u64], q: u64, i: u64, j: u64) -> Answer
     if 15 < q {
         return Answer::Refused(16);
     }
-    view::asked(file, layout_in(layout), question_of(q, i, j))
+    viewed::asked(file, layout_in(layout), question_of(q, i, j))
 }
 
 // The refusal's number of an answer, 0 where it is none.
@@ -124,13 +124,13 @@ fn shown_by<'a>(file: &'a [u8], layout: &[u64], q: u64, i: u64, j: u64, plain: &
 {
     let l = layout_in(layout);
     if q == 15 {
-        return view::words_asked(file, plain, l, i, j);
+        return viewed::words_asked(file, plain, l, i, j);
     }
     if q == 14 {
-        return view::long_asked(file, l, i, j);
+        return viewed::long_asked(file, l, i, j);
     }
     if q < 14 {
-        return view::text_asked(file, l, question_of(q, i, j));
+        return viewed::text_asked(file, l, question_of(q, i, j));
     }
     &file[0..0]
 }
@@ -161,7 +161,7 @@ pub extern "C" fn dta_text<'a>(
 fn checked_by(file: &[u8], code: &mut u8, q: u64, i: u64, j: u64) -> Answer
     ensures { λ r. ⌜ (now (code .exit) ≡ verdict (now (file .entry))) × (answerBy [] r ≡ askedIn (now (file .entry)) (layoutOf (now (file .entry))) q i j) ⌝ }
 {
-    let x = view::checked_asked(file, code, question_of(q, i, j));
+    let x = viewed::checked_asked(file, code, question_of(q, i, j));
     if q <= 15 {
         return x;
     }

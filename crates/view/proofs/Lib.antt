@@ -1,4 +1,3 @@
 pub mod Calls
 pub mod Held
 pub mod Thin
-pub mod Made

@@ -1,5 +1,5 @@
 // A view holds a file's slice with its layout in one struct, and answers the questions alike. The functions over the struct are thin: each
-// takes it apart and calls a function with plain parameters. Above them, functions with plain parameters make a view and ask it.
+// takes it apart and calls a function with plain parameters.
 use asking::Answer;
 use asking::Question;
 use checking::Layout;
@@ -68,39 +68,4 @@ pub fn words<'a>(v: View<'a>, plain: &'a [u8], i: u64, j: u64) -> &'a [u8]
     ensures { λ r. ⌜ now r ≡ wordsOf (now (v .entry .file)) (now (plain .entry)) (layoutBy (v .entry .layout)) i j ⌝ }
 {
     label_words::words(v.file, plain, v.layout, i, j)
-}
-
-// With plain parameters: the answer to a question, by a view that is made here.
-pub fn asked(file: &[u8], layout: Layout, q: Question) -> Answer
-    ensures { λ r. ⌜ Asked (now (file .entry)) (layoutBy layout) q r ⌝ }
-{
-    ask(make(file, layout), q)
-}
-
-// The bytes that the answer to a question names.
-pub fn text_asked<'a>(file: &'a [u8], layout: Layout, q: Question) -> &'a [u8]
-    ensures { λ r. ⌜ now r ≡ textOf (now (file .entry)) (layoutBy layout) q ⌝ }
-{
-    text(make(file, layout), q)
-}
-
-// The contents of the long string of cell `i`, `j`.
-pub fn long_asked<'a>(file: &'a [u8], layout: Layout, i: u64, j: u64) -> &'a [u8]
-    ensures { λ r. ⌜ now r ≡ longOf (now (file .entry)) (layoutBy layout) i j ⌝ }
-{
-    long(make(file, layout), i, j)
-}
-
-// The label words of cell `i`, `j`, or the lent plain text.
-pub fn words_asked<'a>(file: &'a [u8], plain: &'a [u8], layout: Layout, i: u64, j: u64) -> &'a [u8]
-    ensures { λ r. ⌜ now r ≡ wordsOf (now (file .entry)) (now (plain .entry)) (layoutBy layout) i j ⌝ }
-{
-    words(make(file, layout), plain, i, j)
-}
-
-// The answer to a question by the view of a file alone: the verdict's number is stored, and with a refusal a layout of zeros is asked.
-pub fn checked_asked(file: &[u8], code: &mut u8, q: Question) -> Answer
-    ensures { λ r. ⌜ (now (code .exit) ≡ verdict (now (file .entry))) × Asked (now (file .entry)) (layoutOf (now (file .entry))) q r ⌝ }
-{
-    ask(checked(file, code), q)
 }

@@ -43,22 +43,22 @@ use Rattle.asking.specs.declared.Question.{Question}
 use Rattle.asking.specs.declared.Answer.{Answer}
 use Rattle.asking.proofs.Question as Q
 use Rattle.asking.proofs.Answer as S
 use Rattle.view.specs.declared.View.{View}
 use Rattle.view.proofs.Calls.{returned}
 use Rattle.view.proofs.Held.{B}
 use Rattle.view.proofs.Thin.{question, Answers, answer, Told, own as held, own-clauses as held-clauses}
-use Rattle.view.proofs.Made.{local-typed, Ask, to-ask, goes-ask}
+use Rattle.viewed.proofs.Made.{local-typed, Ask, to-ask, goes-ask}
 use Rattle.view.proofs.checked as checking
 use Rattle.view.proofs.checked.Symbol as checked-def
 use Rattle.view.proofs.checked.Symbol.{name as #view·checked}
 use Rattle.view.proofs.checked.Met as checked-thm
 use Rattle.view.proofs.ask.Symbol as ask-def
 use Rattle.view.proofs.ask.Symbol.{name as #view·ask}
 use Rattle.view.proofs.ask.Met as ask-thm
-use Rattle.view.proofs.checked_asked.Key.{name as #view·checked-asked}
-use Rattle.view.proofs.checked_asked as own
-use Rattle.view.proofs.checked_asked.Statement as stated
-use Rattle.view.proofs.checked_asked.Code as code
+use Rattle.viewed.proofs.checked_asked.Key.{name as #viewed·checked-asked}
+use Rattle.viewed.proofs.checked_asked as own
+use Rattle.viewed.proofs.checked_asked.Statement as stated
+use Rattle.viewed.proofs.checked_asked.Code as code
 
 abbrev stayed : Stays (own.ended .signature .params) (own.ended .kept)
 stayed = (stay-none-slice (0 ∷ []) tt (plain (λ _. u8)) yes, (gave-ref (1 ∷ []) tt (plain (λ _. u8)), (stay-none (λ _. Q.the-row) yes, tt)))
@@ -169,7 +169,7 @@ pub checked-asked-spec : {M : Type 1} → stated.statement M
 unfolding code.routine tablesOf
 checked-asked-spec 𝓤 H 𝓜 𝓖 𝓡 =
     entered 𝓤 H (tripleOf 𝓤 H (𝓖 .A) own.signature (own.spec 𝓤 H (𝓖 .A) (𝓜 .mem) (𝓡 .run)))
-    (tables 𝓤 H 𝓜 𝓡 code.env .C) (tables 𝓤 H 𝓜 𝓡 code.env .Λ) #view·checked-asked code.function (code.unfolded 𝓤 H 𝓜 𝓡)
+    (tables 𝓤 H 𝓜 𝓡 code.env .C) (tables 𝓤 H 𝓜 𝓡 code.env .Λ) #viewed·checked-asked code.function (code.unfolded 𝓤 H 𝓜 𝓡)
     (meets 𝓤 H (𝓖 .A) (givenOf 𝓤 H 𝓜 𝓖) (𝓜 .mem) (𝓡 .run) (tablesOf 𝓤 H 𝓜 (tables 𝓤 H 𝓜 𝓡 code.env))
     (cited 𝓤 H (Checked 𝓤 H (𝓖 .A) (𝓜 .mem) (𝓡 .run)) 𝓜 𝓡 code.env #view·checked checked-def.routine code.calls-view·checked (checked-thm.met 𝓤 H 𝓜 𝓖 𝓡))
     (cited 𝓤 H (Asks 𝓤 H (𝓖 .A) (𝓜 .mem) (𝓡 .run)) 𝓜 𝓡 code.env #view·ask ask-def.routine code.calls-view·ask (ask-thm.met 𝓤 H 𝓜 𝓖 𝓡)))
