@@ -3,7 +3,6 @@
 use crate::answer::slice;
 use crate::file::Layout;
 use crate::raw;
-use std::collections::HashMap;
 
 /// The list that `fill` stores, in room for `room` numbers or as many more as it asks for.
 pub(crate) fn list(
@@ -50,9 +49,12 @@ impl<'a> LongString<'a> {
     }
 }
 
-/// The long strings of a file.
+/// The long strings of a file, in the order of the observations and variables that they were recorded for.
 pub struct LongStrings<'a> {
-    found: HashMap<(u64, u64), LongString<'a>>,
+    /// Where those of each observation end; none of an observation 0.
+    ends: Vec<usize>,
+    /// With the variable.
+    recorded: Vec<(u64, LongString<'a>)>,
 }
 
 impl<'a> LongStrings<'a> {
@@ -60,30 +62,35 @@ impl<'a> LongStrings<'a> {
         // A record has at least 16 bytes.
         let room = part(layout, 10) / 16 * raw::LONG_STRING;
         let list = list(file, raw::long_list, room);
-        let found = list
-            .chunks_exact(raw::LONG_STRING)
-            .map(|numbers| {
-                let long = LongString {
-                    kind: numbers[2] as u8,
-                    contents: slice(file, numbers[3], numbers[4]),
-                };
-                ((numbers[0], numbers[1]), long)
-            })
-            .collect();
-        LongStrings { found }
+        let mut ends = vec![0];
+        let mut recorded = Vec::with_capacity(list.len() / raw::LONG_STRING);
+        for numbers in list.chunks_exact(raw::LONG_STRING) {
+            let long = LongString {
+                kind: numbers[2] as u8,
+                contents: slice(file, numbers[3], numbers[4]),
+            };
+            ends.resize(numbers[1] as usize, recorded.len());
+            recorded.push((numbers[0], long));
+        }
+        ends.push(recorded.len());
+        LongStrings { ends, recorded }
     }
 
     /// The long string that a reference means; nothing for (0, 0), the empty text.
     pub fn get(&self, v: u64, o: u64) -> Option<LongString<'a>> {
-        self.found.get(&(v, o)).copied()
+        let o = usize::try_from(o).ok()?;
+        let start = *self.ends.get(o.checked_sub(1)?)?;
+        let of_observation = self.recorded.get(start..*self.ends.get(o)?)?;
+        let at = of_observation.binary_search_by_key(&v, |(variable, _)| *variable);
+        at.ok().map(|at| of_observation[at].1)
     }
 
     pub fn len(&self) -> usize {
-        self.found.len()
+        self.recorded.len()
     }
 
     pub fn is_empty(&self) -> bool {
-        self.found.is_empty()
+        self.recorded.is_empty()
     }
 }
 

@@ -7,10 +7,11 @@ type OfSize = fn(usize) -> Vec<u8>;
 type Fixed = fn() -> Vec<u8>;
 
 /// Files of about a size.
-pub const ORDINARY: [(&str, OfSize); 4] = [
+pub const ORDINARY: [(&str, OfSize); 5] = [
     ("numbers", numbers),
     ("texts", texts),
     ("long strings", long_strings),
+    ("long strings of 20 bytes", short_strings),
     ("labels", labels),
 ];
 
@@ -225,6 +226,18 @@ fn long_strings(size: usize) -> Vec<u8> {
             put_long(&mut made, v, o, 100 + next.next() as usize % 200);
         }
         made.data.extend((o as u32).to_le_bytes());
+    }
+    made.file()
+}
+
+/// As the crossed ones below, but each names itself.
+fn short_strings(size: usize) -> Vec<u8> {
+    let n = size / (2 * (8 + 16 + 20));
+    let mut made = Made::new(vec![STRL, STRL], n);
+    for o in 1..=n {
+        for v in 1..=2 {
+            put_long(&mut made, v, o, 20);
+        }
     }
     made.file()
 }
