@@ -108,6 +108,11 @@ module _ (e : Edition) (o : Order) (f : List ℕ) where
   unfolding cellSaid
   cell-past t x p s h b = rw (room-none f p (cellNeeds e x f p) (omega (arith, b, needs-some t x p s h)))
 
+  -- no cell starts after the file's end
+  pub cell-after : (x : VarType) (p : ℕ) → length f < p → refused 17 ≡ cellSaid e o f x p
+  unfolding cellSaid
+  cell-after x p b = rw (room-none f p (cellNeeds e x f p) (omega (arith, b)))
+
 -- ---- the types on the way
 
 types-has : (t : Bool) (o : Order) (f : List ℕ) (n p : ℕ) (l : List VarType) → typesIn t o f n p ≡ got l → (m : ℕ) → m < n → hasType t (getD l m byteType) ≡ true
@@ -231,6 +236,17 @@ module _ (s m r x n : ℕ) where
       same : (m : ℕ) → m * capped r < 18446744073709551615 → m * r ≡ m * capped r
       same zero k = zero-mul r ∙ sym (zero-mul (capped r))
       same (suc m) k = ap (λ (y : ℕ). suc m * y) (capped-is r (omega (arith, k, suc-mul m (capped r))))
+
+-- what is said at the capped place is said at the place itself
+pub capped-said : (e : Edition) (o : Order) (f : List ℕ) (x : VarType) (t : Bool) → e .vWidth + e .oWidth ≡ 8 → hasType t x ≡ true → (s m r y : ℕ) → length f ≤ 18446744073709551615
+    → cellSaid e o f x (s + m * capped r + capped y) ≡ cellSaid e o f x (s + m * r + y)
+capped-said e o f x t w h s m r y n = go (leb (length f) (s + m * capped r + capped y)) refl
+  where
+    go : (b : Bool) → leb (length f) (s + m * capped r + capped y) ≡ b → cellSaid e o f x (s + m * capped r + capped y) ≡ cellSaid e o f x (s + m * r + y)
+    go true b =
+        let k = leb-true (length f) (s + m * capped r + capped y) b in
+        sym (cell-past e o f t x (s + m * capped r + capped y) w h k) ∙ cell-past e o f t x (s + m * r + y) w h (far-off s m r y (length f) k)
+    go false b = ap (cellSaid e o f x) (near s m r y (length f) n (leb-false (length f) (s + m * capped r + capped y) b))
 
 -- ---- for the code
 

@@ -2,18 +2,14 @@ use cell::Cell;
 use checking::Layout;
 use codes::Kind;
 use columns::Column;
-use editions::Edition;
 ghost use mathlib.Core.Path.{_≡_};
-ghost use mathlib.Core.Bool.{true};
-ghost use Prim.Native.Nat.{_≤_};
+ghost use Prim.Native.Nat.{_+_};
 ghost use Rattle.format.specs.Number.{orderBy};
 ghost use Rattle.questions.specs.Ask.{answerOf, askColumn, askCell};
 ghost use Rattle.checking.specs.Checks.{layoutBy};
 ghost use Rattle.columns.specs.Columns.{columnBy};
-ghost use Rattle.cells.specs.Cells.{noSaid, Saids, isText, TextSaid, cellSaid};
-ghost use Rattle.format.specs.Data.{cellWidth};
-ghost use Rattle.codes.specs.Fields.{known, typeOf};
-ghost use Rattle.editions.specs.Editions.{numbersOf};
+ghost use Rattle.cells.specs.Cells.{noSaid, Saids, isText, TextSaid, HasKind, CellSaid, noRow, rowIn, RowRead, RowSaid};
+ghost use Rattle.codes.specs.Fields.{typeOf};
 
 // A cell's content: the refusal number; where it is 0, what the cell says.
 pub struct Said {
@@ -61,9 +57,9 @@ fn read_text(f: &[u8], p: u64, width: usize) -> Said
 }
 
 // The cell of a kind and width at `p`: all its bytes must be in the file, of a text those up to its first zero.
-fn read_cell(f: &[u8], p: u64, kind: Kind, width: usize, e: Edition, msf: bool) -> Said
-    requires { ⌜ (known kind ≡ true) × (width ≡ cellWidth (e .«v_width») (e .«o_width») (typeOf kind width)) × (e .«v_width» ≤ 8) × (e .«o_width» ≤ 8) ⌝ }
-    ensures { λ r. ⌜ Saids (cellSaid (numbersOf e) (orderBy msf) (now (f .entry)) (typeOf kind width) p) r ⌝ }
+fn read_cell(f: &[u8], p: u64, kind: Kind, width: usize, vw: usize, ow: usize, msf: bool) -> Said
+    requires { ⌜ HasKind kind width vw ow ⌝ }
+    ensures { λ r. ⌜ CellSaid vw ow (orderBy msf) (now (f .entry)) (typeOf kind width) p r ⌝ }
 {
     if is_text(kind) {
         return read_text(f, p, width);
@@ -77,8 +73,66 @@ fn read_cell(f: &[u8], p: u64, kind: Kind, width: usize, e: Edition, msf: bool) 
     }
     Said {
         code: 0,
-        cell: cell::cell_at(f, q, kind, width, e.v_width, e.o_width, msf),
+        cell: cell::cell_at(f, q, kind, width, vw, ow, msf),
     }
+}
+
+// Where a row of the data stands: the refusal number of its cells; where it is 0, the row's place.
+pub struct Row {
+    pub code: u8,
+    pub at: u64,
+}
+
+fn no_row(code: u8) -> Row
+    ensures { λ r. ⌜ r ≡ noRow code ⌝ }
+{
+    Row { code, at: 0 }
+}
+
+// Where row `j` of `n` stands, `width` bytes each from `start + gap` on, where `code` is the column's.
+pub fn row_in(f: &[u8], code: u8, width: u64, j: u64, n: u64, start: u64, gap: u64) -> Row
+    ensures { λ r. ⌜ r ≡ rowIn (now (f .entry)) code width j n (start + gap) ⌝ }
+{
+    if code == 16 {
+        return no_row(16);
+    }
+    if !reading::is_among(j, n) {
+        return no_row(16);
+    }
+    if code != 0 {
+        return no_row(17);
+    }
+    let a = reading::place_in(f, start, gap, j - 1, width);
+    if !a.there {
+        return no_row(17);
+    }
+    Row {
+        code: 0,
+        at: a.value,
+    }
+}
+
+// The cell of a kind and width that stands `offset` bytes into a row.
+pub fn cell_in_row(
+    f: &[u8],
+    row: Row,
+    kind: Kind,
+    width: usize,
+    offset: u64,
+    vw: usize,
+    ow: usize,
+    msf: bool,
+) -> Said
+    requires { ⌜ RowRead (now f) row kind width vw ow ⌝ }
+    ensures { λ r. ⌜ RowSaid vw ow (orderBy msf) (now (f .entry)) row (typeOf kind width) offset r ⌝ }
+{
+    if row.code != 0 {
+        return no_said(row.code);
+    }
+    if (f.len() as u64 - row.at) < offset {
+        return no_said(17);
+    }
+    read_cell(f, row.at + offset, kind, width, vw, ow, msf)
 }
 
 // What cell `i`, `j` says, where `c` is where the cells of variable `i` stand.
@@ -87,30 +141,19 @@ pub fn cell_in_column(f: &[u8], l: Layout, c: Column, i: u64, j: u64) -> Said
     ensures { λ r. ⌜ Saids (answerOf (now (f .entry)) (layoutBy l) (askCell i j)) r ⌝ }
 {
     let o = reading::edition_in(l.edition, l.order);
-    if c.code == 16 {
-        return no_said(16);
-    }
-    if !reading::is_among(j, l.n) {
-        return no_said(16);
-    }
-    if c.code != 0 {
-        return no_said(17);
-    }
-    let a = reading::place_in(
-        f,
-        l.places[9],
-        reading::tag_size(o.e.tagged, 6),
-        j - 1,
-        c.row,
-    );
-    if !a.there {
-        return no_said(17);
-    }
-    if f.len() as u64 - a.value <= c.offset {
-        return no_said(17);
-    }
+    let a = reading::tag_size(o.e.tagged, 6);
+    let row = row_in(f, c.code, c.row, j, l.n, l.places[9], a);
     let kind = c.kind;
-    read_cell(f, a.value + c.offset, kind, c.width, o.e, o.msf)
+    cell_in_row(
+        f,
+        row,
+        kind,
+        c.width,
+        c.offset,
+        o.e.v_width,
+        o.e.o_width,
+        o.msf,
+    )
 }
 
 // What cell `i`, `j` says.
