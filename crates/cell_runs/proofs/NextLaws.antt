@@ -1,13 +1,13 @@
 -- From a column to the next: one width more.
 use mathlib.Core.Path.{_≡_, refl, sym, ap, _∙_}
 use Prim.Native.Nat.{ℕ, zero, suc, _+_, _-_, _*_, _≤_, _<_}
-use native.Mathlib.Nat.{zero-add}
+use native.Mathlib.Nat.{zero-add, add-zero, add-assoc}
 use native.Mathlib.Omega.{arith}
 use mathlib.Core.List.{List, [], _∷_}
 use mathlib.Core.Bool.{Bool, true, false, false≢true}
 use lib.ListN.{length, getD, take}
-use lib.Dec.{leb}
-use borrow.Author.Tests.{le-leb, lt-ltb, leb-true, leb-false}
+use lib.Dec.{eqb, leb}
+use borrow.Author.Tests.{le-leb, lt-ltb, leb-true, leb-false, eq-eqb, ne-eqb, eqb-true, eqb-false}
 use Rattle.format.specs.Number.{Order, orderBy}
 use Rattle.format.specs.Grammar.{rowWidth}
 use Rattle.format.specs.Edition.{Edition, codeWidth, n-variable-types}
@@ -26,7 +26,10 @@ use Rattle.reading.specs.Reads.{openedBy, editionIn}
 use Rattle.reading.proofs.AnswerLaws.{edition-widths, answer-shut, answer-open}
 use Rattle.columns.specs.declared.Column.{Column}
 use Rattle.columns.specs.Columns.{capped, columnBy}
-use Rattle.columns.proofs.ColumnLaws.{capped-sum, consed, types-out, types-at}
+use Rattle.columns.proofs.ColumnLaws.{capped-small, capped-sum, consed, types-out, types-at}
+use Rattle.cell_runs.specs.Next.{columnAfter, nextColumn, NextInside}
+use Rattle.cells.specs.declared.Row.{Row}
+use Rattle.cells.specs.Cells.{rowIn}
 use Rattle.cells.proofs.CellLaws.{Is, away, shut, lost, here, cases, width-is}
 
 pub in-among : (i k : ℕ) → 1 ≤ i → i ≤ k → among i k ≡ true
@@ -141,3 +144,76 @@ module _ {f : List ℕ} {l : Layout} {i : ℕ} {q : Opened} {c : Column} {p : �
       rw (F, G, R)
       (sym
       (next-by f l i q (S .opened) c C (S .low) (S .high) (S .there) (got t) (S .got-types) ∙ ap (λ (m : ℕ). columnBy (column (getD t m byteType) (rowWidth w (take m t)) (widthIn E t))) n))
+
+-- ---- for the code
+
+module _ (t : Bool) (o : Order) (f : List ℕ) (p i : ℕ) (c : Column) where
+  pub next-stays : (c .code ≡ 0 → ⊥) → c ≡ nextColumn t o f p i c
+  unfolding nextColumn
+  next-stays h = rw (ne-eqb (c .code) 0 h)
+
+  pub next-goes : c .code ≡ 0 → (x : Field) → x ≡ fieldAt t o f p i → (b : ℕ) → b ≡ capped (c .offset + c .width)
+      → record { code = 0; kind = x .kind; width = x .width; offset = b; row = c .row } ≡ nextColumn t o f p i c
+  unfolding nextColumn
+  next-goes h x X b B = rw (X, B, eq-eqb (c .code) 0 h)
+
+-- r is the column after that of variable i, c: code and row stay
+pub record Next (f : List ℕ) (l : Layout) (i : ℕ) (c r : Column) : Type 0 where
+  pub is : r ≡ columnBy (answerOf f l (askColumn (i + 1)))
+  pub code : r .code ≡ c .code
+  pub row : r .row ≡ c .row
+
+module _ (f : List ℕ) (l : Layout) (i : ℕ) (q : Opened) (Q : openedBy q ≡ editionIn (l .release) (l .order)) (c : Column) (C : c ≡ columnBy (answerOf f l (askColumn i))) (low : 1 ≤ i) (high : i + 1 ≤ l .variables)
+    (n : length f ≤ 18446744073709551615) (p : ℕ) (P : p ≡ capped (startOf (numbersOf (q .e) .tagged) l 2 n-variable-types)) where
+  -- in a file whose types are read their place is not capped
+  at-start : c .code ≡ 0 → Stands f l i q c p
+  at-start h =
+      let s = startOf (numbersOf (q .e) .tagged) l 2 n-variable-types in
+      let k = code-inside (stands f l i q Q c C low high h s refl) in
+      stands f l i q Q c C low high h p (P ∙ sym (capped-small s (omega (arith, k, n))))
+
+  pub next-inside : NextInside (numbersOf (q .e) .tagged) f p i c
+  next-inside h = code-inside (at-start h)
+
+  pub next-column : (r : Column) → r ≡ nextColumn (numbersOf (q .e) .tagged) (orderBy (q .msf)) f p i c → Next f l i c r
+  unfolding nextColumn
+  next-column r R = go (eqb (c .code) 0) refl
+    where
+      x : Field
+      x = fieldAt (numbersOf (q .e) .tagged) (orderBy (q .msf)) f p i
+
+      go : (b : Bool) → eqb (c .code) 0 ≡ b → Next f l i c r
+      go true b =
+          let h = eqb-true (c .code) 0 b in
+          let A : r ≡ columnAfter x c = R ∙ rw b in
+          record { is = A ∙ next-is (at-start h) x refl (capped (c .offset + c .width)) refl; code = ap (λ (y : Column). y .code) A ∙ sym h; row = ap (λ (y : Column). y .row) A }
+      go false b =
+          let A : r ≡ c = R ∙ rw b in
+          record { is = A ∙ refused-next f l i q Q c C low high (eqb-false (c .code) 0 b); code = ap (λ (y : Column). y .code) A; row = ap (λ (y : Column). y .row) A }
+
+-- ---- along a row
+
+-- m variables after variable i, whose column is d, the column is c; code and row are those of d
+pub record Along (f : List ℕ) (l : Layout) (i : ℕ) (d : Column) (m : ℕ) (c : Column) : Type 0 where
+  pub column : i + m ≤ l .variables → c ≡ columnBy (answerOf f l (askColumn (i + m)))
+  pub code : c .code ≡ d .code
+  pub row : c .row ≡ d .row
+
+pub along-start : (f : List ℕ) (l : Layout) (i : ℕ) (d : Column) → d ≡ columnBy (answerOf f l (askColumn i)) → Along f l i d 0 d
+along-start f l i d e = record { column = λ h. e ∙ ap (λ (x : ℕ). columnBy (answerOf f l (askColumn x))) (sym (add-zero i)); code = refl; row = refl }
+
+module _ {f : List ℕ} {l : Layout} {i : ℕ} {d : Column} {m : ℕ} {c : Column} (A : Along f l i d m c) where
+  pub along-next : {r : Column} → Next f l (i + m) c r → Along f l i d (m + 1) r
+  along-next n =
+      record {
+        column = λ h. n .is ∙ ap (λ (x : ℕ). columnBy (answerOf f l (askColumn x))) (add-assoc i m 1);
+        code = n .code ∙ A .code;
+        row = n .row ∙ A .row;
+      }
+
+  pub along-end : l .variables ≤ i + m → Along f l i d (m + 1) c
+  along-end b = record { column = λ h. absurd (omega (arith, h, b)); code = A .code; row = A .row }
+
+  -- the row is the same for all
+  pub along-row : (j n p : ℕ) {r : Row} → r ≡ rowIn f (d .code) (d .row) j n p → r ≡ rowIn f (c .code) (c .row) j n p
+  along-row j n p e = rw (A .code, A .row) e

@@ -5,14 +5,16 @@ use checking::Layout;
 use columns::Column;
 ghost use mathlib.Core.Path.{_≡_};
 ghost use mathlib.Core.List.{_++_};
-ghost use Prim.Native.Nat.{ℕ, _+_, _/_, _≤_};
+ghost use Prim.Native.Nat.{ℕ, _+_, _/_, _≤_, _<_};
 ghost use lib.ListN.{length, drop};
-ghost use Rattle.questions.specs.Ask.{answerOf, askColumn, askCell};
+ghost use Rattle.format.specs.Number.{orderBy};
+ghost use Rattle.questions.specs.Ask.{place, askCell};
 ghost use Rattle.checking.specs.Checks.{layoutBy};
-ghost use Rattle.columns.specs.Columns.{capped, columnBy};
+ghost use Rattle.columns.specs.Columns.{capped};
 ghost use Rattle.cells.specs.Cells.{saidOf};
 ghost use Rattle.coded.specs.Coded as Coded;
 ghost use Rattle.coded.specs.Coded.{numbersOf, Tells};
+ghost use Rattle.cell_runs.specs.Next.{nextColumn, NextInside};
 
 // A sum, or the greatest number where it is greater.
 fn add_capped(a: u64, b: u64) -> u64
@@ -25,17 +27,15 @@ fn add_capped(a: u64, b: u64) -> u64
     }
 }
 
-// Where the cells of variable `i + 1` stand, where `c` is where those of variable `i` do.
-fn column_after(f: &[u8], l: Layout, c: Column, i: u64) -> Column
-    requires { ⌜ (c ≡ columnBy (answerOf (now f) (layoutBy l) (askColumn i))) × (1 ≤ i) × (i + 1 ≤ l .k) ⌝ }
-    ensures { λ r. ⌜ r ≡ columnBy (answerOf (now (f .entry)) (layoutBy l) (askColumn (i + 1))) ⌝ }
+// Where the cells of variable `i + 1` stand, where `c` is where those of variable `i` do, and `types` is the type codes' place.
+fn column_after(f: &[u8], types: u64, c: Column, i: u64, tagged: bool, msf: bool) -> Column
+    requires { ⌜ NextInside tagged (now f) types i c ⌝ }
+    ensures { λ r. ⌜ r ≡ nextColumn tagged (orderBy msf) (now (f .entry)) types i c ⌝ }
 {
-    let o = reading::edition_in(l.edition, l.order);
     if c.code != 0 {
         return c;
     }
-    let p = l.places[2] + reading::tag_size(o.e.tagged, 16);
-    let x = data::field_at(f, p as usize, i as usize, o.e.tagged, o.msf);
+    let x = data::field_at(f, types as usize, i as usize, tagged, msf);
     let kind = x.kind;
     Column {
         code: 0,
@@ -44,6 +44,14 @@ fn column_after(f: &[u8], l: Layout, c: Column, i: u64) -> Column
         offset: add_capped(c.offset, c.width as u64),
         row: c.row,
     }
+}
+
+// Position `k` of the layout.
+fn place_of(l: Layout, k: usize) -> u64
+    requires { ⌜ k < 14 ⌝ }
+    ensures { λ r. ⌜ r ≡ place (layoutBy l) k ⌝ }
+{
+    l.places[k]
 }
 
 // The lesser.
@@ -86,10 +94,24 @@ pub fn cells_down(f: &[u8], l: Layout, i: u64, j: u64, out: &mut [u64]) -> usize
     ensures { λ r. ⌜ Tells (now (f .entry)) (layoutBy l) (λ (m : ℕ). askCell i (j + m)) (Coded.following j (l .n)) (now (out .entry)) (now (out .exit)) r ⌝ }
 {
     let n = how_many(out.len(), j, l.n);
+    let o = reading::edition_in(l.edition, l.order);
+    let start = place_of(l, 9);
+    let gap = reading::tag_size(o.e.tagged, 6);
     let c = columns::column_of(f, l, i);
+    let kind = c.kind;
     let mut m: usize = 0;
     while m < n {
-        let x = cells::cell_in_column(f, l, c, i, j + m as u64);
+        let row = cells::row_in(f, c.code, c.row, j + m as u64, l.n, start, gap);
+        let x = cells::cell_in_row(
+            f,
+            row,
+            kind,
+            c.width,
+            c.offset,
+            o.e.v_width,
+            o.e.o_width,
+            o.msf,
+        );
         put_said(&mut out[m * 4..], x);
         m += 1;
     }
@@ -101,15 +123,30 @@ pub fn cells_along(f: &[u8], l: Layout, i: u64, j: u64, out: &mut [u64]) -> usiz
     ensures { λ r. ⌜ Tells (now (f .entry)) (layoutBy l) (λ (m : ℕ). askCell (i + m) j) (Coded.following i (l .k)) (now (out .entry)) (now (out .exit)) r ⌝ }
 {
     let n = how_many(out.len(), i, l.k);
+    let o = reading::edition_in(l.edition, l.order);
+    let types = add_capped(place_of(l, 2), reading::tag_size(o.e.tagged, 16));
+    let start = place_of(l, 9);
+    let gap = reading::tag_size(o.e.tagged, 6);
     let mut c = columns::column_of(f, l, i);
+    let row = cells::row_in(f, c.code, c.row, j, l.n, start, gap);
     let mut m: usize = 0;
     while m < n {
         let v = i + m as u64;
-        let x = cells::cell_in_column(f, l, c, v, j);
+        let kind = c.kind;
+        let x = cells::cell_in_row(
+            f,
+            row,
+            kind,
+            c.width,
+            c.offset,
+            o.e.v_width,
+            o.e.o_width,
+            o.msf,
+        );
         put_said(&mut out[m * 4..], x);
         m += 1;
-        if m < n {
-            c = column_after(f, l, c, v);
+        if v < l.k {
+            c = column_after(f, types, c, v, o.e.tagged, o.msf);
         }
     }
     n
