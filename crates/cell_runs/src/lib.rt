@@ -47,7 +47,7 @@ fn column_after(f: &[u8], types: u64, c: Column, i: u64, tagged: bool, msf: bool
 }
 
 // Position `k` of the layout.
-fn place_of(l: Layout, k: usize) -> u64
+pub fn place_of(l: Layout, k: usize) -> u64
     requires { ⌜ k < 14 ⌝ }
     ensures { λ r. ⌜ r ≡ place (layoutBy l) k ⌝ }
 {

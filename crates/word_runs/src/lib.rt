@@ -23,11 +23,25 @@ pub fn words_down(f: &[u8], l: Layout, i: u64, j: u64, out: &mut [u64]) -> usize
     ensures { λ r. ⌜ Tells (now (f .entry)) (layoutBy l) (λ (m : ℕ). askWords i (j + m) []) (following j (l .n)) (now (out .entry)) (now (out .exit)) r ⌝ }
 {
     let n = cell_runs::how_many(out.len(), j, l.n);
+    let o = reading::edition_in(l.edition, l.order);
+    let start = cell_runs::place_of(l, 9);
+    let gap = reading::tag_size(o.e.tagged, 6);
     let c = columns::column_of(f, l, i);
+    let kind = c.kind;
     let s = label_words::set_of(f, l, i);
     let mut m: usize = 0;
     while m < n {
-        let x = cells::cell_in_column(f, l, c, i, j + m as u64);
+        let row = cells::row_in(f, c.code, c.row, j + m as u64, l.n, start, gap);
+        let x = cells::cell_in_row(
+            f,
+            row,
+            kind,
+            c.width,
+            c.offset,
+            o.e.v_width,
+            o.e.o_width,
+            o.msf,
+        );
         let y = label_words::cell_words(f, s, x);
         put_words(&mut out[m * 4..], y);
         m += 1;
