@@ -4,7 +4,6 @@ use Prim.Native.Nat.{ℕ}
 use lib.ListN.{length-replicate}
 use Rattle.strls.proofs.PassLaws.{end-broken, end-at}
 use Rattle.strls.proofs.EndLaws.{passed-not, passed-all}
-use borrow.Author.Needs.{needs}
 use Rattle.strls.proofs.rule_11.Statement.{statement}
 use Rattle.strls.proofs.rule_11.Tie as tie
 
