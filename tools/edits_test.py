@@ -1,0 +1,189 @@
+#!/usr/bin/env python3
+"""Tests of edits.py: logs that it must take, and logs and edit files that it must refuse."""
+import os
+import tempfile
+import unittest
+
+import edits
+
+SOURCE = """// One more.
+pub fn more(n: u8) -> u8
+    requires { ⌜ n < 255 ⌝ }
+    ensures { λ r. ⌜ r ≡ n + 1 ⌝ }
+{
+    n + 1
+}
+
+fn twice(n: u8) -> u8
+    ensures { λ r. ⌜ r ≡ double n ⌝ }
+{
+    let m = n;
+    n + m
+}
+
+fn calls(n: u8) -> u8 {
+    more(n)
+}
+"""
+MORE = """# more_by_two: one is added
+# refused: more returns: `2` (expected)
+file: src/lib.rt
+old:     n + 1
+new:     n + 2
+"""
+TWICE = """# twice_nothing: a number is added to itself
+# refused: twice returns-2: double
+file: src/lib.rt
+old:     let m = n;
+new:     let m = 0;
+"""
+RULE = """# rule_less: twice is two times
+# refused: Laws double-is: `3` (expected)
+# also: Laws double-more, twice returns-2
+file: specs/Twice.antt
+old: double n = 2 * n
+new: double n = 3 * n
+"""
+MORE_FAILS = "{at}/proofs/more/Proof.antt:3:9: error: `returns`: the two types differ only where one has `2` (expected)\n  and the other has `1` (found)\n"
+MORE_SPEC = "{at}/proofs/more/Proof.antt:5:9: error: `more-spec`: `returns` was not admitted (it has holes or undetermined implicits, or was rejected), so this cannot be checked\n"
+TWICE_FAILS = "note: what antt said of a `search` in the proof that rattle made: {at}/src/lib.rt:9:1: `returns-2`: `search`: no proof\n  of `double n` was found\n"
+MORE_LINE = "fn c::more: not proved\n"
+TWICE_LINE = "fn c::twice: no proof: expected `twice-spec` in {at}/proofs/twice/Proof.antt; `search` does not close `returns-2`\n"
+CALLS_LINE = "fn c::calls: not proved; it calls `c::more`, which is not proved\n"
+END = "logic=not-proved\n"
+
+
+class Judged(unittest.TestCase):
+    def setUp(self):
+        self.folder = tempfile.TemporaryDirectory()
+        self.addCleanup(self.folder.cleanup)
+        os.mkdir(os.path.join(self.folder.name, "src"))
+        with open(os.path.join(self.folder.name, "src", "lib.rt"), "w", encoding="utf-8") as file:
+            file.write(SOURCE)
+
+    def form(self, text):
+        return edits.form_faults(edits.edits_of(text), self.folder.name)
+
+    def judge(self, text, *log):
+        self.assertEqual(self.form(text), [])
+        said = "".join(log).replace("{at}", self.folder.name)
+        return edits.judge(edits.edits_of(text), said, self.folder.name + "/", self.folder.name)
+
+    def refused(self, faults, words):
+        self.assertEqual(len(faults), 1, faults)
+        self.assertIn(words, faults[0])
+
+    # what must be taken
+
+    def test_two_functions_of_one_check(self):
+        self.assertEqual(self.judge(MORE + "\n" + TWICE, MORE_FAILS, MORE_SPEC, TWICE_FAILS, MORE_LINE, TWICE_LINE, CALLS_LINE, END), [])
+
+    def test_a_definition_and_what_it_breaks(self):
+        said = "{at}/proofs/Laws.antt:3:9: error: `double-is`: one has `3` (expected)\n{at}/proofs/Laws.antt:9:9: error: `double-more`: no\n"
+        self.assertEqual(self.judge(RULE, said, TWICE_FAILS, TWICE_LINE, END), [])
+
+    # what must be refused: logs
+
+    def test_a_log_without_the_error(self):
+        self.refused(self.judge(MORE + "\n" + TWICE, MORE_FAILS, MORE_SPEC, MORE_LINE, END), "twice is not refused")
+
+    def test_an_edit_that_is_not_refused(self):
+        self.refused(self.judge(MORE, "fn c::more: proved\nlogic=proved functions=1\n"), "did not refuse")
+        self.refused(self.judge(MORE, ""), "did not refuse")
+
+    def test_a_wrong_reason(self):
+        self.refused(self.judge(MORE, MORE_FAILS.replace("`2`", "`7`"), MORE_SPEC, MORE_LINE, END), "for another reason")
+
+    def test_a_wrong_place(self):
+        self.refused(self.judge(MORE, MORE_FAILS.replace("`returns`", "`add-result`"), MORE_FAILS, MORE_LINE, END), "first refused elsewhere")
+
+    def test_a_wrong_form(self):
+        form = "{at}/proofs/more/Proof.antt:2:9: error: `returns`: module `Tie` has no `Need-returns` that can be named from here, `2` (expected)\n"
+        self.refused(self.judge(MORE, form, MORE_LINE, END), "for its form alone")
+        for text in ("record `After` has no field `got`, `2` (expected)", "`tie.Need-returns`: module `Tie` has no `Need-returns` that can be named from here, `2` (expected)", "`law` is not in scope: `2` (expected)"):
+            form = "{at}/proofs/more/Proof.antt:2:9: error: `returns`: " + text + "\n"
+            self.refused(self.judge(MORE, form, MORE_LINE, END), "for its form alone")
+
+    def test_advice_is_no_wrong_form(self):
+        self.assertEqual(self.judge(MORE, MORE_FAILS + "  `e` is not in scope here, so what is shown does not paste back\n", MORE_LINE, END), [])
+
+    def test_a_proof_with_something_undetermined(self):
+        unsolved = "{at}/proofs/more/Proof.antt:2:1: `returns` is not admitted: unsolved\n{at}/proofs/more/Proof.antt:2:9: unsolved ?1 in `returns`: `2` (expected)\n"
+        self.refused(self.judge(MORE, unsolved, MORE_LINE, END), "for its form alone")
+        other = unsolved.replace("proofs/more", "proofs/calls")
+        self.refused(self.judge(MORE, MORE_FAILS, other, MORE_LINE, CALLS_LINE, END), "calls fails too")
+
+    def test_only_by_depending(self):
+        self.refused(self.judge(MORE, MORE_SPEC, MORE_LINE, END), "only for what it rests on")
+
+    def test_something_else_fails(self):
+        other = "{at}/proofs/calls/Proof.antt:3:9: error: `returns`: no\n"
+        self.refused(self.judge(MORE, MORE_FAILS, other, MORE_LINE, "fn c::calls: not proved\n", END), "calls fails too")
+        self.refused(self.judge(MORE, MORE_FAILS, MORE_LINE, "fn c::calls: no proof: expected `calls-spec`\n", END), "calls is no proof")
+        self.refused(self.judge(MORE, MORE_FAILS, MORE_LINE, "fn c::calls: could not tell\n", END), "calls is could not tell")
+
+    def test_a_law_that_is_not_named(self):
+        said = "{at}/proofs/Laws.antt:3:9: error: `double-is`: one has `3` (expected)\n{at}/proofs/Laws.antt:9:9: error: `double-more`: no\n"
+        other = "{at}/proofs/Laws.antt:11:9: error: `double-less`: no\n"
+        self.refused(self.judge(RULE, said, other, TWICE_FAILS, TWICE_LINE, END), "Laws double-less fails too")
+
+    def test_a_law_that_does_not_fail(self):
+        said = "{at}/proofs/Laws.antt:3:9: error: `double-is`: one has `3` (expected)\n"
+        self.refused(self.judge(RULE, said, TWICE_FAILS, TWICE_LINE, END), "Laws double-more is not refused")
+
+    def test_a_file_that_was_not_tried(self):
+        root = os.path.join(self.folder.name, "root")
+        os.makedirs(os.path.join(root, "crates", "c", "must-fail"))
+        os.makedirs(os.path.join(root, "crates", "c", "src"))
+        for path, text in (("src/lib.rt", SOURCE), ("must-fail/1.edit", MORE)):
+            with open(os.path.join(root, "crates", "c", path), "w", encoding="utf-8") as file:
+                file.write(text)
+        (crate, label, path), = edits.edit_files(root, [])
+        found, faults = edits.judge_file(root, os.path.join(root, "target"), crate, label, path)
+        self.assertEqual([edit.name for edit in found], ["more_by_two"])
+        self.refused(faults, "was not tried")
+        self.assertEqual(edits.judge_file(root, None, crate, label, path)[1], [])
+
+    # what must be refused: edit files
+
+    def test_two_edits_of_one_function(self):
+        again = MORE.replace("more_by_two", "more_by_none").replace("n + 2", "n + 0")
+        self.refused(self.form(MORE + "\n" + again), "both change more")
+
+    def test_another_function_is_named(self):
+        self.refused(self.form(MORE.replace("refused: more", "refused: calls")), "is to be refused at calls")
+
+    def test_a_need_that_is_no_promise(self):
+        for need in ("number-requires", "add-result", "loop-less", "shared-slice-read-if1"):
+            self.refused(self.form(MORE.replace("returns", need)), "not about what more promises")
+        self.assertEqual(self.form(MORE.replace("returns", "loop-again")), [])
+        self.assertEqual(self.form(MORE.replace("returns", "loop-holds-2")), [])
+
+    def test_a_law_of_the_proof_itself(self):
+        os.makedirs(os.path.join(self.folder.name, "proofs", "more"))
+        with open(os.path.join(self.folder.name, "proofs", "more", "Proof.antt"), "w", encoding="utf-8") as file:
+            file.write("  read : (c : tie.After-more) → c .got ≡ 1\nadd-result : tie.Need-add-result\n")
+        self.assertEqual(self.form(MORE.replace("returns", "read")), [])
+        self.refused(self.form(MORE.replace("returns", "add-result")), "not about what more promises")
+
+    def test_two_edits_with_one_law(self):
+        again = RULE.replace("rule_less", "rule_more").replace("3 * n", "4 * n")
+        self.refused(self.form(RULE + "\n" + again.replace("# also: Laws double-more, twice returns-2\n", "")), "both name Laws double-is")
+
+    def test_an_edit_of_a_contract_or_a_proof(self):
+        contract = MORE.replace("    n + 1\n", "r ≡ n + 1\n").replace("    n + 2", "r ≡ n + 2")
+        self.refused(self.form(contract), "changes a contract")
+        self.refused(self.form(MORE.replace("    n + 1\n", "// One more.\n")), "changes a contract")
+        self.refused(self.form(MORE + "file: proofs/more/Proof.antt\nold: look 1\nnew: look 2\n"), "a proof")
+        self.assertEqual(edits.changed_by(edits.edits_of(MORE)[0], self.folder.name), {"more"})
+        self.assertEqual(edits.changed_by(edits.edits_of(TWICE)[0], self.folder.name), {"twice"})
+
+    def test_files_that_are_no_edits(self):
+        for text in ("", "# a comment\n", MORE.replace("# refused: more returns: `2` (expected)\n", ""), MORE.replace("# more_by_two: one is added\n", ""),
+                     MORE.split("old:")[0], MORE.replace("file: src/lib.rt\n", ""), MORE.replace("refused: more returns:", "refused: more:"), MORE + "else\n"):
+            with self.assertRaises(edits.Bad, msg=text):
+                edits.edits_of(text)
+
+
+if __name__ == "__main__":
+    unittest.main(argv=["edits_test.py", "--quiet"])
