@@ -322,6 +322,8 @@ def judge_all(root, target, crates, show=False):
                 print(f"{crate}/{label}.edit {edit.name}: {', '.join(claim.key for claim in edit.claims)}")
         wrong += [f"{crate}/{label}.edit: {fault}" for fault in faults]
         files += 1
+    if not files:
+        wrong.append(f"there is no edit file{' of ' + ', '.join(crates) if crates else ''}")
     for fault in wrong:
         print(f"edits: {fault}", file=sys.stderr)
     print(f"edits: {len(wrong)} faults" if wrong else f"edits: {len(names)} in {files} files, {'each refused where it must be' if target else 'in order'}")
@@ -337,6 +339,9 @@ def main():
     parser.add_argument("crates", nargs="*")
     words = parser.parse_args()
     root = os.path.dirname(os.path.dirname(os.path.abspath(__file__)))
+    for crate in words.crates:
+        if not os.path.isdir(os.path.join(root, "crates", crate)):
+            parser.error(f"there is no crate {crate}")
     if words.tries or words.apart:
         if not words.crates:
             parser.error("--try and --apart take the names of crates")

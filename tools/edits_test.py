@@ -1,5 +1,7 @@
 #!/usr/bin/env python3
 """Tests of edits.py: logs that it must take, and logs and edit files that it must refuse."""
+import contextlib
+import io
 import os
 import tempfile
 import unittest
@@ -143,6 +145,12 @@ class Judged(unittest.TestCase):
         self.assertEqual([edit.name for edit in found], ["more_by_two"])
         self.refused(faults, "was not tried")
         self.assertEqual(edits.judge_file(root, None, crate, label, path)[1], [])
+        said = io.StringIO()
+        with contextlib.redirect_stderr(said), contextlib.redirect_stdout(said):
+            self.assertEqual(edits.judge_all(root, None, []), 0)
+            os.remove(path)
+            self.assertEqual(edits.judge_all(root, None, []), 1)
+        self.assertIn("there is no edit file", said.getvalue())
 
     # what must be refused: edit files
 
