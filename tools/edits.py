@@ -4,7 +4,8 @@
     edits.py [--target DIR] [CRATE..]   judge the logs that `rt ci` or `rt must-fail` left in DIR/must-fail (default: target)
     edits.py --names [CRATE..]          only read the edit files, and print each edit
     edits.py --try CRATE..              try the edits of these crates alone, in a copy of the checkout, and judge them
-    edits.py --apart CRATE..            the same with each edit in a file of its own: whether it is refused alone as it is beside the others
+    edits.py --apart CRATE..            the same with each edit in a file of its own: whether it is refused alone as it is beside the others, and otherwise
+                                        where only its proof is changed and the code is right
 
 An edit file, crates/NAME/must-fail/*.edit, has one or more edits, since `rt` takes any number of replacements in one check and the prover names each
 function that isn't proved. `rt` itself says only that the whole was refused. An edit is
@@ -20,11 +21,16 @@ with one or more `refused:` lines, any number of `also:` lines, and one or more 
 a file of definitions, as specs/NAME. NEED is the declaration in it that fails (`returns`, `loop-again`, a law's name). WORDS stand in what the prover says of
 it, and are part of the fact that no longer holds. `also:` has what else breaks where a definition is changed.
 
+A proof that walks through its function's code step by step is changed with the code, as the walk of right code doesn't fit wrong code: proofs/FUNCTION/Proof.antt,
+where the edit changes that function's body. Such an edit may add a function that is proved and promises something else, for the body to call: its text in one line, in
+place of a comment between functions.
+
 Refused by this program:
-- an edit of a contract, which would only show that the proof doesn't prove something else, or of a proof;
+- an edit of a contract, which would only show that the proof doesn't prove something else, or of a proof but a walk that follows the code;
 - a file in which two edits change one function or name one law: what fails could be the other's;
 - an edit that changes the body of a function and names another one as refused, or a need that is not about what the function promises (see PROMISES);
-- an edit whose function or law does not fail, or fails first elsewhere, or for another reason, or for the form of its proof alone (see FORM);
+- an edit whose function or law does not fail, or fails first elsewhere, or for another reason, or for the form of its proof alone (see FORM); and, where the proof
+  was changed, one that fails for its form anywhere in it;
 - anything else that fails, but by depending on what failed.
 """
 import argparse
@@ -39,6 +45,8 @@ import tempfile
 FORM = re.compile(r"(?:`[^`]*`: )?(?:module `[^`]*` has no `|record `[^`]*` has no field `|`[^`]*` is not in scope|is not admitted)")
 # Errors of what rests on something that was refused.
 DEPENDS = re.compile(r"was not admitted \(it has holes or undetermined implicits, or was rejected\), so this cannot be checked")
+# What ends the label of an edit without its wrong code, which is tried, too, where it changes a proof.
+PROOF_ALONE = "-proof"
 # The needs about what a function promises: its answer, and what its loops keep. Others are about a callee's `requires`, an index or a sum.
 PROMISES = re.compile(r"(returns|.*-again|.*-holds)(-\d+)?$")
 
@@ -48,6 +56,7 @@ SEARCH = re.compile(r"note: what antt said of a `search` in the proof that rattl
 FUNCTION = re.compile(r"fn (?P<crate>\w+)::(?P<name>[\w:]+): (?P<what>proved|not proved|no proof|could not tell)(?P<rest>.*)")
 HEADS = re.compile(r"/.*?:\d+:\d+: |note: |help: |warning: |fn |enum |struct |logic|library |rattle: ")
 ITEM = re.compile(r"^(?:pub )?(?:extern \"C\" )?fn (\w+)", re.M)
+WALK = re.compile(r"proofs/(\w+)/Proof\.antt$")
 NAME = re.compile(r"# (\w+): \S")
 REFUSED = re.compile(r"# refused: (\S+) (\S+): (.*\S)")
 ALSO = re.compile(r"# also: (\S+ \S+(?:, \S+ \S+)*)$")
@@ -74,6 +83,10 @@ class Claim:
 class Edit:
     def __init__(self, name):
         self.name, self.claims, self.pairs, self.lines = name, [], [], []
+
+    def walks(self):
+        """The functions whose proofs it changes."""
+        return {WALK.match(path).group(1) for path, _, _ in self.pairs if WALK.match(path)}
 
 
 class Failure:
@@ -140,11 +153,22 @@ def body_of(source, at):
     return item.group(1) if 0 <= body < at < end else None
 
 
+def added_by(edit, pair, folder):
+    """The function that a replacement adds in place of a comment; none if it adds none, or one that is there or that the edit doesn't call."""
+    path, old, new = pair
+    item = re.match(r"fn (\w+).* ensures \{ .* \} \{ .* \}$", new)
+    if not (edit.walks() and path.startswith("src/") and old.startswith("// ") and item):
+        return None
+    source, name = read(os.path.join(folder, path)), item.group(1)
+    called = any(re.search(rf"\b{name}\(", other[2]) for other in edit.pairs if other != pair)
+    return name if called and old in source.split("\n") and name not in ITEM.findall(source) else None
+
+
 def changed_by(edit, folder):
     """The functions whose bodies an edit changes, with none for a place outside any body; empty where it changes definitions."""
     names = set()
-    for path, old, _ in edit.pairs:
-        if path.startswith("src/"):
+    for path, old, new in edit.pairs:
+        if path.startswith("src/") and not added_by(edit, (path, old, new), folder):
             source = read(os.path.join(folder, path))
             # or a text that an earlier replacement of this edit put there
             at = source.find(old) if old in source else source.find(edit.pairs[0][1])
@@ -152,10 +176,20 @@ def changed_by(edit, folder):
     return names
 
 
+def proof_of(name, folder):
+    """The proof file of a function; empty where it has none."""
+    path = os.path.join(folder, "proofs", name, "Proof.antt")
+    return read(path) if os.path.exists(path) else ""
+
+
+def is_walked(name, folder):
+    """Whether a function's proof walks through its code by hand: it names the code."""
+    return bool(re.search(r"^use \S+\.Code as \w+$", proof_of(name, folder), re.M))
+
+
 def is_promise(claim, folder):
     """Whether a need is about what the function promises, or a law of its proof's own."""
-    path = os.path.join(folder, "proofs", claim.unit, "Proof.antt")
-    laws = re.findall(rf"^\s*{re.escape(claim.need)} : (.*)", read(path), re.M) if os.path.exists(path) else []
+    laws = re.findall(rf"^\s*{re.escape(claim.need)} : (.*)", proof_of(claim.unit, folder), re.M)
     return bool(PROMISES.match(claim.need)) or any(not law.startswith("tie.Need-") for law in laws)
 
 
@@ -164,8 +198,11 @@ def form_faults(edits, folder):
     faults, seen = [], {}
     for edit in edits:
         changed = changed_by(edit, folder)
-        if None in changed or any(not path.startswith(("src/", "specs/")) for path, _, _ in edit.pairs):
-            faults.append(f"{edit.name} changes a contract, a proof or what stands between functions: change the body of a function, or a definition")
+        if None in changed or any(not path.startswith(("src/", "specs/")) and not WALK.match(path) for path, _, _ in edit.pairs):
+            faults.append(f"{edit.name} changes a contract, a law or what stands between functions: change the body of a function, or a definition")
+            continue
+        if not edit.walks() <= {name for name in changed if is_walked(name, folder)}:
+            faults.append(f"{edit.name} changes the proof of a function that is not walked by hand, or whose body it leaves")
             continue
         for key in changed or {claim.key for claim in edit.claims}:
             if key in seen:
@@ -208,8 +245,8 @@ def read_log(log, copy, folder):
     return failures, functions
 
 
-def claim_fault(claim, failures):
-    """Why a claim is not met; none if it is."""
+def claim_fault(claim, failures, walked):
+    """Why a claim is not met, of a function whose proof was changed or not; none if it is."""
     found = [failure for failure in failures if failure.key == claim.key]
     if not found:
         return f"{claim.key} is not refused"
@@ -223,6 +260,9 @@ def claim_fault(claim, failures):
         return f"{claim.key} is first refused elsewhere: {said}"
     if claim.words and claim.words not in first.text:
         return f"{claim.key} is refused for another reason: {said}"
+    unfit = [failure for failure in found if walked and FORM.match(failure.text)]
+    if unfit:
+        return f"{claim.key} has a proof that doesn't fit the code: {unfit[0].need}: {unfit[0].text[:300]}"
     return None
 
 
@@ -243,7 +283,7 @@ def judge(edits, log, copy, folder):
     if not re.search(r"^logic=not-proved", log, re.M):
         return ["the prover did not refuse it"]
     failures, functions = read_log(log, copy, folder)
-    faults = [f"{edit.name}: {fault}" for edit in edits for claim in edit.claims for fault in [claim_fault(claim, failures)] if fault]
+    faults = [f"{edit.name}: {fault}" for edit in edits for claim in edit.claims for fault in [claim_fault(claim, failures, claim.unit in edit.walks())] if fault]
     return faults + stray_faults(edits, failures, functions)
 
 
@@ -257,7 +297,7 @@ def edit_files(root, crates):
     for crate in crates or sorted(os.listdir(os.path.join(root, "crates"))):
         folder = os.path.join(root, "crates", crate, "must-fail")
         for name in sorted(os.listdir(folder)) if os.path.isdir(folder) else []:
-            if name.endswith(".edit"):
+            if name.endswith(".edit") and not name.endswith(f"{PROOF_ALONE}.edit"):
                 yield crate, name.removesuffix(".edit"), os.path.join(folder, name)
 
 
@@ -272,17 +312,31 @@ def judge_file(root, target, crate, label, path):
     if target is None or faults:
         return edits, faults
     try:
-        log = read(os.path.join(target, "must-fail", crate, label, ".log"))
+        faults = judge(edits, read(os.path.join(target, "must-fail", crate, label, ".log")), f"/{crate}/{label}/", folder)
+        alone = label + PROOF_ALONE
+        if os.path.exists(os.path.join(os.path.dirname(path), f"{alone}.edit")):
+            faults += filter(None, [alone_fault(edits[0], read(os.path.join(target, "must-fail", crate, alone, ".log")), f"/{crate}/{alone}/", folder)])
     except FileNotFoundError:
         return edits, ["it was not tried: there is no log"]
-    return edits, judge(edits, log, f"/{crate}/{label}/", folder)
+    return edits, faults
 
 
-def split(edits, folder):
-    """Writes each edit to a file of its own."""
+def split(edits, folder, crate):
+    """Writes each edit to a file of its own, and what it changes of proofs, with the functions that it adds, to another."""
     for edit in edits:
         with open(os.path.join(folder, f"{edit.name}.edit"), "w", encoding="utf-8") as file:
             file.write("\n".join(edit.lines) + "\n")
+        if edit.walks():
+            with open(os.path.join(folder, f"{edit.name}{PROOF_ALONE}.edit"), "w", encoding="utf-8") as file:
+                file.writelines("file: {}\nold: {}\nnew: {}\n".format(*pair) for pair in edit.pairs if WALK.match(pair[0]) or added_by(edit, pair, crate))
+
+
+def alone_fault(edit, log, copy, folder):
+    """That an edit is refused as it is with the right code, too; none if it isn't."""
+    failures, _ = read_log(log, copy, folder)
+    if all(claim_fault(claim, failures, claim.unit in edit.walks()) for claim in edit.claims):
+        return None
+    return f"{edit.name} is refused in the same way where the code is right"
 
 
 def copy_checkout(root, room, crates, apart):
@@ -296,7 +350,7 @@ def copy_checkout(root, room, crates, apart):
         folder = os.path.join(room, "crates", crate, "must-fail")
         os.makedirs(folder, exist_ok=True)
         if apart:
-            split(edits_of(read(path)), folder)
+            split(edits_of(read(path)), folder, os.path.join(root, "crates", crate))
         else:
             shutil.copy(path, folder)
 

@@ -39,6 +39,22 @@ file: src/lib.rt
 old:     let m = n;
 new:     let m = 0;
 """
+WALKED = """# calls_more: one is added
+# refused: calls walk: `n + 1` (expected)
+file: src/lib.rt
+old: // One more.
+new: fn by_two(n: u8) -> u8 ensures { λ r. ⌜ r ≡ n + 2 ⌝ } { n + 2 }
+old:     more(n)
+new:     by_two(n)
+file: proofs/calls/Proof.antt
+old: use c.proofs.more as callee
+new: use c.proofs.by_two as callee
+"""
+CALLS_WALK = """use c.proofs.more as callee
+use c.proofs.calls.Code as code
+walk : code.function ≡ callee.function
+walk = refl
+"""
 RULE = """# rule_less: twice is two times
 # refused: Laws double-is: `3` (expected)
 # also: Laws double-more, twice returns-2
@@ -52,6 +68,9 @@ TWICE_FAILS = "note: what antt said of a `search` in the proof that rattle made:
 MORE_LINE = "fn c::more: not proved\n"
 TWICE_LINE = "fn c::twice: no proof: expected `twice-spec` in {at}/proofs/twice/Proof.antt; `search` does not close `returns-2`\n"
 CALLS_LINE = "fn c::calls: not proved; it calls `c::more`, which is not proved\n"
+WALK_FAILS = "{at}/proofs/calls/Proof.antt:3:9: error: `walk`: the two types differ only where one has `n + 1` (expected)\n  and the other has `n + 2` (found)\n"
+WALK_UNFIT = "{at}/proofs/calls/Proof.antt:9:9: error: `calls-spec`: `code.calls-c·by-two`: module `Code` has no `calls-c·by-two` that can be named from here\n"
+WALK_LINES = "fn c::calls: not proved; the borrow checker does not cover this function yet\nfn c::by_two: proved\n"
 END = "logic=not-proved\n"
 
 
@@ -62,6 +81,9 @@ class Judged(unittest.TestCase):
         os.mkdir(os.path.join(self.folder.name, "src"))
         with open(os.path.join(self.folder.name, "src", "lib.rt"), "w", encoding="utf-8") as file:
             file.write(SOURCE)
+        os.makedirs(os.path.join(self.folder.name, "proofs", "calls"))
+        with open(os.path.join(self.folder.name, "proofs", "calls", "Proof.antt"), "w", encoding="utf-8") as file:
+            file.write(CALLS_WALK)
 
     def form(self, text):
         return edits.form_faults(edits.edits_of(text), self.folder.name)
@@ -84,7 +106,35 @@ class Judged(unittest.TestCase):
         said = "{at}/proofs/Laws.antt:3:9: error: `double-is`: one has `3` (expected)\n{at}/proofs/Laws.antt:9:9: error: `double-more`: no\n"
         self.assertEqual(self.judge(RULE, said, TWICE_FAILS, TWICE_LINE, END), [])
 
+    def test_a_walk_that_follows_the_code(self):
+        self.assertEqual(self.judge(WALKED, WALK_FAILS, WALK_LINES, END), [])
+        self.assertEqual(self.judge(WALKED + "\n" + TWICE, WALK_FAILS, TWICE_FAILS, TWICE_LINE, WALK_LINES, END), [])
+
     # what must be refused: logs
+
+    def test_a_walk_that_does_not_fit(self):
+        self.refused(self.judge(WALKED, WALK_FAILS, WALK_UNFIT, WALK_LINES, END), "doesn't fit the code")
+        self.refused(self.judge(WALKED, WALK_UNFIT, WALK_FAILS, WALK_LINES, END), "for its form alone")
+
+    def test_an_added_function_that_is_not_proved(self):
+        self.refused(self.judge(WALKED, WALK_FAILS, WALK_LINES.replace("by_two: proved", "by_two: no proof"), END), "by_two is no proof")
+
+    def test_a_proof_that_is_refused_with_the_right_code(self):
+        edit, = edits.edits_of(WALKED)
+        at = self.folder.name
+        for log, same in ((WALK_FAILS, True), (WALK_FAILS + WALK_UNFIT, False), (WALK_FAILS.replace("n + 1", "spot"), False), ("", False)):
+            fault = edits.alone_fault(edit, log.replace("{at}", at), at + "/", at)
+            self.assertEqual(bool(fault), same, log)
+        edit, = edits.edits_of(WALKED.replace("# refused: calls walk", "# refused: calls found: x\n# refused: calls walk"))
+        self.assertTrue(edits.alone_fault(edit, WALK_FAILS.replace("{at}", at), at + "/", at))
+        parts = os.path.join(at, "parts")
+        os.mkdir(parts)
+        edits.split([edit] + edits.edits_of(MORE), parts, at)
+        self.assertEqual(sorted(os.listdir(parts)), ["calls_more-proof.edit", "calls_more.edit", "more_by_two.edit"])
+        alone = edits.read(os.path.join(parts, "calls_more-proof.edit"))
+        self.assertIn("fn by_two", alone)
+        self.assertIn("use c.proofs.by_two", alone)
+        self.assertNotIn("    by_two(n)", alone)
 
     def test_a_log_without_the_error(self):
         self.refused(self.judge(MORE + "\n" + TWICE, MORE_FAILS, MORE_SPEC, MORE_LINE, END), "twice is not refused")
@@ -145,6 +195,14 @@ class Judged(unittest.TestCase):
         self.assertEqual([edit.name for edit in found], ["more_by_two"])
         self.refused(faults, "was not tried")
         self.assertEqual(edits.judge_file(root, None, crate, label, path)[1], [])
+        log = os.path.join(root, "target", "must-fail", "c", "1")
+        os.makedirs(log)
+        with open(os.path.join(log, ".log"), "w", encoding="utf-8") as file:
+            file.write((MORE_FAILS + MORE_LINE + END).replace("{at}", log))
+        self.assertEqual(edits.judge_file(root, os.path.join(root, "target"), crate, label, path)[1], [])
+        with open(os.path.join(root, "crates", "c", "must-fail", "1-proof.edit"), "w", encoding="utf-8") as file:
+            file.write("")
+        self.refused(edits.judge_file(root, os.path.join(root, "target"), crate, label, path)[1], "was not tried")
         said = io.StringIO()
         with contextlib.redirect_stderr(said), contextlib.redirect_stdout(said):
             self.assertEqual(edits.judge_all(root, None, []), 0)
@@ -182,9 +240,17 @@ class Judged(unittest.TestCase):
         contract = MORE.replace("    n + 1\n", "r ≡ n + 1\n").replace("    n + 2", "r ≡ n + 2")
         self.refused(self.form(contract), "changes a contract")
         self.refused(self.form(MORE.replace("    n + 1\n", "// One more.\n")), "changes a contract")
-        self.refused(self.form(MORE + "file: proofs/more/Proof.antt\nold: look 1\nnew: look 2\n"), "a proof")
+        self.refused(self.form(MORE + "file: proofs/Laws.antt\nold: look 1\nnew: look 2\n"), "changes a contract, a law")
+        self.refused(self.form(MORE + "file: proofs/more/Proof.antt\nold: look 1\nnew: look 2\n"), "not walked by hand")
+        self.refused(self.form(MORE + "file: proofs/calls/Proof.antt\nold: look 1\nnew: look 2\n"), "whose body it leaves")
+        self.refused(self.form(RULE + "file: proofs/calls/Proof.antt\nold: look 1\nnew: look 2\n"), "whose body it leaves")
         self.assertEqual(edits.changed_by(edits.edits_of(MORE)[0], self.folder.name), {"more"})
         self.assertEqual(edits.changed_by(edits.edits_of(TWICE)[0], self.folder.name), {"twice"})
+
+    def test_an_added_function(self):
+        self.assertEqual(self.form(WALKED), [])
+        for old, new in (("    by_two(n)", "    more(n + 1)"), ("by_two", "twice"), ("fn by_two", "let by_two"), ("old: // One more.", "old: fn twice(n: u8) -> u8"), ("old: // One more.", "old: // One"), (" { n + 2 }", ""), (" ensures { λ r. ⌜ r ≡ n + 2 ⌝ }", ""), (WALKED[WALKED.index("file: proofs") :], "")):
+            self.refused(self.form(WALKED.replace(old, new)), "changes a contract")
 
     def test_files_that_are_no_edits(self):
         for text in ("", "# a comment\n", MORE.replace("# refused: more returns: `2` (expected)\n", ""), MORE.replace("# more_by_two: one is added\n", ""),

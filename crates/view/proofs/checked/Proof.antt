@@ -81,6 +81,10 @@ module _ {M : Type 1} (𝓤 : URA M) (H : Heap 𝓤) (A : Atoms 𝓤) (W : Given
   abbrev Found : Layout → ℕ → Type 0
   Found l w = (w ≡ verdict (now s)) × (layoutBy l ≡ layoutOf (now s))
 
+  -- what the callee promises of them
+  abbrev Told : Layout → ℕ → Type 0
+  Told = Found
+
   abbrev Post : Val → SProp 𝓤
   Post = walkOf 𝓤 H A own.ended stayed (own.clauses 𝓤 H A mem run) .post ((κs, (q, (q′, tt)), tt, (s, (x, tt)), at), tt)
 
@@ -116,8 +120,8 @@ module _ {M : Type 1} (𝓤 : URA M) (H : Heap 𝓤) (A : Atoms 𝓤) (W : Given
         calls-at ! fm (Callee 𝓤 H A mem run) known to (and-then ! (load ! (from ! (stop !)) (look ! 8 refl)) (and-then ! (load ! (from ! (stop !)) (look ! 2 refl)) (no-more !))) (λ u.
         use1 W (later (some (λ (l : Layout). ((‵ (flft κ q) ⊛ ‵ (flft κ′ q′) ⊛ ‵ ftrue) ⊛ ‵ (Y.the-row .own l (u ∷ []))) ⊛ raw (ensured 𝓤 H A callee.ended (callee.clauses 𝓤 H A mem run) κs (s, (x, tt)) tt l)))) (id⊢ 𝓤 _) $ await ! tt $ pick ! (λ l.
         -- what the callee ensures, at some last number
-        split ! $ move ! (1 ∷ []) $ use1 W (some (λ (ws : Unit {0} × (ℕ × Unit {0})). ‵ (lasts callee.ended κs (s, (x, tt)) ws) ⊛ raw (fact 𝓤 (Found l (ws .1 .0))))) (id⊢ 𝓤 _) $ pick ! (λ ws.
-        split ! $ move ! (1 ∷ []) $ heard ! (Found l (ws .1 .0)) (λ e. fsplit ! $ move ! (1 ∷ []) $ fsplit ! $ move ! (3 ∷ []) $ split ! $ move ! (1 ∷ []) $
+        split ! $ move ! (1 ∷ []) $ use1 W (some (λ (ws : Unit {0} × (ℕ × Unit {0})). ‵ (lasts callee.ended κs (s, (x, tt)) ws) ⊛ raw (fact 𝓤 (Told l (ws .1 .0))))) (id⊢ 𝓤 _) $ pick ! (λ ws.
+        split ! $ move ! (1 ∷ []) $ heard ! (Told l (ws .1 .0)) (λ e. fsplit ! $ move ! (1 ∷ []) $ fsplit ! $ move ! (3 ∷ []) $ split ! $ move ! (1 ∷ []) $
         -- [what layout owns; the tokens; the last number; …; …; what file owns; _4; …; _3; …; _2; …; _1; …; room for _0; …]
         peeks ! Y.the-row (Is Y.the-row) (shows 𝓤 H A Y.the-row) l (u ∷ []) (λ is.
         land ! (from ! (stop !)) (init ! 8 refl (LL.lawful Y.the-type Y′.the-laws 𝓤 H A W .typed l _ is .0)) $

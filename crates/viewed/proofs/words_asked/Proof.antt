@@ -29,7 +29,7 @@ use denote.Steps.{owned, nothing}
 use denote.Struct.Laws as LL
 use denote.Triple.Statement.{Contract, Triple}
 use denote.Triple.Call.{calls-at}
-use denote.Triple.Entry.{Vals, onEntry}
+use denote.Triple.Entry.{Args, Vals, onEntry}
 use denote.Triple.Spec.{Meets, tripleOf}
 use denote.Triple.Table.{entered, cited}
 use denote.Triple.Walked.{says, Stays, stay-none, stay-none-slice, walkOf, goes-none, goes-none-slice, ends-at, walked, walk-meets}
@@ -94,12 +94,23 @@ module _ {M : Type 1} (𝓤 : URA M) (H : Heap 𝓤) (A : Atoms 𝓤) (W : Given
       -- [what plain owns; what s owns; the token]
       move ! (1 ∷ 2 ∷ []) $ use2 W (raw (Make 𝓤 H A .pre (to-make κ s l 𝓤 H A W q)) ⊛ ‵ (Own κ s l)) (goes-make κ s l 𝓤 H A W q laid) $ split ! $ frame ! $ frame ! $ done !
 
-  -- the call of `words`, at the struct r with the machine value u
-  abbrev to-ask : View → Val → Ask 𝓤 H A mem run .Ghost
-  to-ask r u = (((κ, tt), (q, tt), tt, (r, (n, (i, (j, tt)))), (u ∷ [], (w ∷ [], (vint w64 i ∷ [], (vint w64 j ∷ [], tt))))), tt)
+  -- what `words` is asked, of the struct r
+  abbrev asked : View → Args held.signature (κ, tt)
+  asked r = (r, (n, (i, (j, tt))))
 
-  given-to : (r : View) (u : Val) → ent 𝓤 (onEntry 𝓤 H A held.signature (κ, tt) (q, tt) (r, (n, (i, (j, tt)))) (u ∷ [], (w ∷ [], (vint w64 i ∷ [], (vint w64 j ∷ [], tt))))) (Ask 𝓤 H A mem run .pre (to-ask r u))
-  given-to r u = qed W ((‵ (flft κ q) ⊛ ‵ ftrue) ∷ ‵ (owns (B (κ, tt) ∷ ShrSlice (named 0) κ u8 ∷ u64 ∷ u64 ∷ []) (r, (n, (i, (j, tt)))) (u ∷ [], (w ∷ [], (vint w64 i ∷ [], (vint w64 j ∷ [], tt))))) ∷ []) ∵ join ! $ frame ! $ done !
+  -- what it promises of its result
+  abbrev Told : View → RefT (List ℕ) → Type 0
+  Told r t = now t ≡ wordsOf (now (r .file)) (now (asked r .1 .0)) (layoutBy (r .layout)) (asked r .1 .1 .0) (asked r .1 .1 .1 .0)
+
+  -- the machine values that it is passed, u for r
+  abbrev passed : Val → Vals held.signature (κ, tt)
+  passed u = (u ∷ [], (w ∷ [], (vint w64 i ∷ [], (vint w64 j ∷ [], tt))))
+
+  abbrev to-ask : View → Val → Ask 𝓤 H A mem run .Ghost
+  to-ask r u = (((κ, tt), (q, tt), tt, asked r, passed u), tt)
+
+  given-to : (r : View) (u : Val) → ent 𝓤 (onEntry 𝓤 H A held.signature (κ, tt) (q, tt) (asked r) (passed u)) (Ask 𝓤 H A mem run .pre (to-ask r u))
+  given-to r u = qed W ((‵ (flft κ q) ⊛ ‵ ftrue) ∷ ‵ (owns (B (κ, tt) ∷ ShrSlice (named 0) κ u8 ∷ u64 ∷ u64 ∷ []) (asked r) (passed u)) ∷ []) ∵ join ! $ frame ! $ done !
 
   goes-ask : i < 2 ^ 64 → j < 2 ^ 64 → (r : View) (u : Val) → ent 𝓤 (⋆ 𝓤 H A (‵ (B (κ, tt) .own r (u ∷ [])) ∷ (‵ (flft κ q) ⊛ ‵ ftrue) ∷ (‵ (Own κ s l) ⊛ ‵ Plain) ∷ [])) (sep 𝓤 (Ask 𝓤 H A mem run .pre (to-ask r u)) (sep 𝓤 (sem 𝓤 H A (Own κ s l)) (sem 𝓤 H A Plain)))
   goes-ask gi gj r u =
@@ -127,7 +138,7 @@ module _ {M : Type 1} (𝓤 : URA M) (H : Heap 𝓤) (A : Atoms 𝓤) (W : Given
         land ! (from ! (stop !)) (init ! 3 refl (local-typed 𝓤 H A W κ r u is)) $
         use3 W (raw (Ask 𝓤 H A mem run .pre (to-ask r u)) ⊛ (‵ (Own κ s l) ⊛ ‵ Plain)) (goes-ask gi gj r u) $ split ! $
         calls-at ! fm (Ask 𝓤 H A mem run) known-ask (to-ask r u) (and-then ! (load ! (from ! (stop !)) (look ! 2 refl)) (and-then ! (load ! (from ! (stop !)) (look ! 10 refl)) (and-then ! (load ! (from ! (stop !)) (look ! 6 refl)) (and-then ! (load ! (from ! (stop !)) (look ! 4 refl)) (no-more !))))) (λ u′.
-        returned (held.ended .signature .params) (held.ended .kept) (λ κs. ShrSlice (named 0) (κs .0) u8) ! tt (held.clauses 𝓤 H A mem run) κ q (r, (n, (i, (j, tt)))) (u ∷ [], (w ∷ [], (vint w64 i ∷ [], (vint w64 j ∷ [], tt)))) tt (Found (r .file) (r .layout)) (λ t _. id⊢ 𝓤 _) u′ (λ t e′ is′.
+        returned (held.ended .signature .params) (held.ended .kept) (λ κs. ShrSlice (named 0) (κs .0) u8) ! tt (held.clauses 𝓤 H A mem run) κ q (asked r) (passed u) tt (Told r) (λ t _. id⊢ 𝓤 _) u′ (λ t e′ is′.
         -- [the result; the token; what s and plain own; _6; …; _5; …; _4; …; _3; …; _2; …; _1; …; room for _0; …]
         land ! (from ! (stop !)) (init ! 15 refl (shr-slice-lawful 𝓤 H A W (named 0) κ u8 .typed t _ is′ .0)) $
         returns ! (look ! 15 refl) $ forget ! 3 refl $ forget ! 5 refl $ forget ! 7 refl $ forget ! 9 refl $ forget ! 11 refl $ forget ! 13 refl $ forget ! 15 refl $
