@@ -297,12 +297,12 @@ def edit_files(root, crates):
     for crate in crates or sorted(os.listdir(os.path.join(root, "crates"))):
         folder = os.path.join(root, "crates", crate, "must-fail")
         for name in sorted(os.listdir(folder)) if os.path.isdir(folder) else []:
-            if name.endswith(".edit") and not name.endswith(f"{PROOF_ALONE}.edit"):
+            if name.endswith(".edit"):
                 yield crate, name.removesuffix(".edit"), os.path.join(folder, name)
 
 
-def judge_file(root, target, crate, label, path):
-    """A file's edits, and what is wrong with them or their log."""
+def judge_file(root, target, crate, label, path, apart=False):
+    """A file's edits, and what is wrong with them or their log; where each edit is apart, what is wrong without its wrong code, too."""
     try:
         edits = edits_of(read(path))
     except Bad as bad:
@@ -313,9 +313,10 @@ def judge_file(root, target, crate, label, path):
         return edits, faults
     try:
         faults = judge(edits, read(os.path.join(target, "must-fail", crate, label, ".log")), f"/{crate}/{label}/", folder)
-        alone = label + PROOF_ALONE
-        if os.path.exists(os.path.join(os.path.dirname(path), f"{alone}.edit")):
-            faults += filter(None, [alone_fault(edits[0], read(os.path.join(target, "must-fail", crate, alone, ".log")), f"/{crate}/{alone}/", folder)])
+        for edit in edits if apart else []:
+            alone = label + PROOF_ALONE
+            fault = edit.walks() and alone_fault(edit, read(os.path.join(target, "must-fail", crate, alone, ".log")), f"/{crate}/{alone}/", folder)
+            faults += [fault] if fault else []
     except FileNotFoundError:
         return edits, ["it was not tried: there is no log"]
     return edits, faults
@@ -360,14 +361,17 @@ def try_edits(root, crates, apart):
     with tempfile.TemporaryDirectory(dir="/dev/shm" if os.access("/dev/shm", os.W_OK) else None) as room:
         copy_checkout(root, room, crates, apart)
         subprocess.run(["rt", "must-fail", *crates], cwd=room, env={**os.environ, "TMPDIR": room}, stdout=subprocess.DEVNULL, check=False)
-        return judge_all(room, os.path.join(room, "target"), crates)
+        for _, label, path in list(edit_files(room, crates)):
+            if label.endswith(PROOF_ALONE):
+                os.remove(path)
+        return judge_all(room, os.path.join(room, "target"), crates, apart=apart)
 
 
-def judge_all(root, target, crates, show=False):
+def judge_all(root, target, crates, show=False, apart=False):
     """Judges the edits of these crates, or of all; says what is wrong, and returns how many faults there are."""
     files, wrong, names = 0, [], set()
     for crate, label, path in edit_files(root, crates):
-        edits, faults = judge_file(root, target, crate, label, path)
+        edits, faults = judge_file(root, target, crate, label, path, apart)
         for edit in edits:
             if (crate, edit.name) in names:
                 faults.append(f"{edit.name} is the name of another edit, too")

@@ -3,6 +3,7 @@
 import contextlib
 import io
 import os
+import shutil
 import tempfile
 import unittest
 
@@ -200,15 +201,39 @@ class Judged(unittest.TestCase):
         with open(os.path.join(log, ".log"), "w", encoding="utf-8") as file:
             file.write((MORE_FAILS + MORE_LINE + END).replace("{at}", log))
         self.assertEqual(edits.judge_file(root, os.path.join(root, "target"), crate, label, path)[1], [])
-        with open(os.path.join(root, "crates", "c", "must-fail", "1-proof.edit"), "w", encoding="utf-8") as file:
-            file.write("")
-        self.refused(edits.judge_file(root, os.path.join(root, "target"), crate, label, path)[1], "was not tried")
+        self.assertEqual(edits.judge_file(root, os.path.join(root, "target"), crate, label, path, apart=True)[1], [])
         said = io.StringIO()
         with contextlib.redirect_stderr(said), contextlib.redirect_stdout(said):
             self.assertEqual(edits.judge_all(root, None, []), 0)
             os.remove(path)
             self.assertEqual(edits.judge_all(root, None, []), 1)
         self.assertIn("there is no edit file", said.getvalue())
+
+    def test_a_walk_that_was_not_tried_with_the_right_code(self):
+        root = os.path.join(self.folder.name, "root")
+        shutil.copytree(os.path.join(self.folder.name, "src"), os.path.join(root, "crates", "c", "src"))
+        shutil.copytree(os.path.join(self.folder.name, "proofs"), os.path.join(root, "crates", "c", "proofs"))
+        os.mkdir(os.path.join(root, "crates", "c", "must-fail"))
+        with open(os.path.join(root, "crates", "c", "must-fail", "calls_more.edit"), "w", encoding="utf-8") as file:
+            file.write(WALKED)
+        (crate, label, path), = edits.edit_files(root, [])
+
+        def logged(label, text):
+            log = os.path.join(root, "target", "must-fail", "c", label)
+            os.makedirs(log, exist_ok=True)
+            with open(os.path.join(log, ".log"), "w", encoding="utf-8") as file:
+                file.write(text.replace("{at}", log))
+
+        def judged(apart):
+            return edits.judge_file(root, os.path.join(root, "target"), crate, label, path, apart)[1]
+
+        logged("calls_more", WALK_FAILS + WALK_LINES + END)
+        self.assertEqual(judged(False), [])
+        self.refused(judged(True), "was not tried")
+        logged("calls_more-proof", WALK_FAILS + WALK_LINES + END)
+        self.refused(judged(True), "where the code is right")
+        logged("calls_more-proof", WALK_FAILS + WALK_UNFIT + WALK_LINES + END)
+        self.assertEqual(judged(True), [])
 
     # what must be refused: edit files
 
