@@ -38,8 +38,8 @@ pub fn make<'a>(file: &'a [u8], layout: Layout) -> View<'a>
 pub fn checked<'a, 'c>(file: &'a [u8], code: &'c mut u8) -> View<'a>
     ensures { λ r. ⌜ (r .file ≡ file .entry) × ((now (code .exit) ≡ verdict (now (file .entry))) × (layoutBy (r .layout) ≡ layoutOf (now (file .entry)))) ⌝ }
 {
-    let layout = checked_layout(file, code);
-    View { file, layout }
+    let found = checked_layout(file, code);
+    View { file, layout: found }
 }
 
 // The answer to a question.
