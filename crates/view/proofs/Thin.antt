@@ -116,13 +116,16 @@ module _ (X : RattleType) (P : Param X) (R : Lfts 1 → RattleType) (N : Result 
   abbrev pub callee-clauses : {M : Type 1} (𝓤 : URA M) → Clauses 𝓤 callee
   callee-clauses 𝓤 κs a = record { ghost = Unit {0}; requires = λ _. emp 𝓤; ensures = λ _ r _. fact 𝓤 (Φ κs (a .0) (a .1 .0) (a .1 .1 .0) r) }
 
-  -- that the clauses c promise the relation. Each proof says so of its contract by `refl`, and `ask` and `text` of their callees' too; one that promises something else is refused there, where the two differ
+  -- that the clauses c promise the relation. Each proof says so of its contract by `refl`, and `ask` and `text` of their callees', too (`PromisedBoth`); one that promises something else is refused there, where the two differ
   module _ {M : Type 1} (𝓤 : URA M) where
     abbrev pub Promised : Clauses 𝓤 own → Type 2
     Promised c = (κs : Lfts 1) (d : View) (x : X .Denot) (g : c κs (d, (x, tt)) .ghost) (r : R κs .Denot) (e : AtExit own κs) → c κs (d, (x, tt)) .ensures g r e ≡ fact 𝓤 (Φ κs (d .file) (d .layout) x r)
 
     abbrev pub PromisedPlain : Clauses 𝓤 callee → Type 2
     PromisedPlain c = (κs : Lfts 1) (f : RefT (List ℕ)) (l : Layout) (x : X .Denot) (g : c κs (f, (l, (x, tt))) .ghost) (r : R κs .Denot) (e : AtExit callee κs) → c κs (f, (l, (x, tt))) .ensures g r e ≡ fact 𝓤 (Φ κs f l x r)
+
+    abbrev pub PromisedBoth : Clauses 𝓤 own → Clauses 𝓤 callee → Type 2
+    PromisedBoth c e = Promised c × PromisedPlain e
 
   -- the code, which calls g
   abbrev pub thin : Name → Fn

@@ -16,17 +16,14 @@ use Rattle.asking.proofs.ask as callee
 use Rattle.asking.proofs.ask.Symbol as callee-def
 use Rattle.asking.proofs.ask.Symbol.{name as #asking·ask}
 use Rattle.asking.proofs.ask.Met as callee-thm
-use Rattle.view.proofs.Thin.{question, Answers, answer, Told, Promised, PromisedPlain, Callee, thin-meets}
+use Rattle.view.proofs.Thin.{question, Answers, answer, Told, PromisedBoth, Callee, thin-meets}
 use Rattle.view.proofs.ask.Key.{name as #view·ask}
 use Rattle.view.proofs.ask as own
 use Rattle.view.proofs.ask.Statement as stated
 use Rattle.view.proofs.ask.Code as code
 
-promised : {M : Type 1} (𝓤 : URA M) (H : Heap 𝓤) (A : Atoms 𝓤) (mem : Memory → SProp 𝓤) (run : Routine → Fun 𝓤) → Promised Q.the-row question Answers answer Told 𝓤 (own.clauses 𝓤 H A mem run)
-promised 𝓤 H A mem run κs d x g r e = refl
-
-told : {M : Type 1} (𝓤 : URA M) (H : Heap 𝓤) (A : Atoms 𝓤) (mem : Memory → SProp 𝓤) (run : Routine → Fun 𝓤) → PromisedPlain Q.the-row question Answers answer Told 𝓤 (callee.clauses 𝓤 H A mem run)
-told 𝓤 H A mem run κs f l x g r e = refl
+promised : {M : Type 1} (𝓤 : URA M) (H : Heap 𝓤) (A : Atoms 𝓤) (mem : Memory → SProp 𝓤) (run : Routine → Fun 𝓤) → PromisedBoth Q.the-row question Answers answer Told 𝓤 (own.clauses 𝓤 H A mem run) (callee.clauses 𝓤 H A mem run)
+promised 𝓤 H A mem run = ((λ κs d x g r e. refl), (λ κs f l x g r e. refl))
 
 pub ask-spec : {M : Type 1} → stated.statement M
 unfolding code.routine tablesOf

@@ -16,17 +16,14 @@ use Rattle.parts.proofs.text_of as callee
 use Rattle.parts.proofs.text_of.Symbol as callee-def
 use Rattle.parts.proofs.text_of.Symbol.{name as #parts·text-of}
 use Rattle.parts.proofs.text_of.Met as callee-thm
-use Rattle.view.proofs.Thin.{question, Bytes, bytes, Shown, Promised, PromisedPlain, Callee, thin-meets}
+use Rattle.view.proofs.Thin.{question, Bytes, bytes, Shown, PromisedBoth, Callee, thin-meets}
 use Rattle.view.proofs.text.Key.{name as #view·text}
 use Rattle.view.proofs.text as own
 use Rattle.view.proofs.text.Statement as stated
 use Rattle.view.proofs.text.Code as code
 
-promised : {M : Type 1} (𝓤 : URA M) (H : Heap 𝓤) (A : Atoms 𝓤) (mem : Memory → SProp 𝓤) (run : Routine → Fun 𝓤) → Promised Q.the-row question Bytes bytes Shown 𝓤 (own.clauses 𝓤 H A mem run)
-promised 𝓤 H A mem run κs d x g r e = refl
-
-told : {M : Type 1} (𝓤 : URA M) (H : Heap 𝓤) (A : Atoms 𝓤) (mem : Memory → SProp 𝓤) (run : Routine → Fun 𝓤) → PromisedPlain Q.the-row question Bytes bytes Shown 𝓤 (callee.clauses 𝓤 H A mem run)
-told 𝓤 H A mem run κs f l x g r e = refl
+promised : {M : Type 1} (𝓤 : URA M) (H : Heap 𝓤) (A : Atoms 𝓤) (mem : Memory → SProp 𝓤) (run : Routine → Fun 𝓤) → PromisedBoth Q.the-row question Bytes bytes Shown 𝓤 (own.clauses 𝓤 H A mem run) (callee.clauses 𝓤 H A mem run)
+promised 𝓤 H A mem run = ((λ κs d x g r e. refl), (λ κs f l x g r e. refl))
 
 pub text-spec : {M : Type 1} → stated.statement M
 unfolding code.routine tablesOf
