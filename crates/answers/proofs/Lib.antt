@@ -1,4 +1,2 @@
 pub mod TellLaws
 pub mod PartLaws
-pub mod ShownLaws
-pub mod SameLaws

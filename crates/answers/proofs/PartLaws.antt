@@ -8,7 +8,7 @@ use borrow.Author.Tests.{ne-eqb, le-leb, lt-leb}
 use Rattle.questions.specs.Readings.{Try, none, got, bind, textIn}
 use Rattle.questions.specs.Ask.{part, slice, textPart}
 use Rattle.reading.specs.declared.Read.{Read}
-use Rattle.reading.specs.Reads.{tryOf, lengthIn, placeIn}
+use Rattle.reading.specs.Reads.{readBy, lengthIn, placeIn}
 use Rattle.reading.proofs.ReadLaws.{read-got, read-none, text-nowhere, place-is}
 use Rattle.answers.specs.Answers.{partIn}
 
@@ -18,14 +18,14 @@ length-part : (p : ℕ) (x : Try (List ℕ)) → bind x (λ t. got (part p (leng
 length-part p none = refl
 length-part p (got t) = refl
 
-module _ (w : ℕ) (f : List ℕ) (p : ℕ) (a : Read) (A : tryOf a ≡ placeIn f p) where
+module _ (w : ℕ) (f : List ℕ) (p : ℕ) (a : Read) (A : a ≡ readBy (placeIn f p)) where
   -- the field starts past the end of the file
   pub text-past-end : a .there ≡ false → textPart w f p ≡ none
   text-past-end h = rw (text-nowhere f p a A w h)
 
-  module _ (h : a .there ≡ true) (n : Read) (N : tryOf n ≡ lengthIn w f (a .value)) where
-    length-is : tryOf n ≡ lengthIn w f p
-    length-is = N ∙ ap (lengthIn w f) (place-is f p a A h)
+  module _ (h : a .there ≡ true) (n : Read) (N : n ≡ readBy (lengthIn w f (a .value))) where
+    length-is : n ≡ readBy (lengthIn w f p)
+    length-is = N ∙ ap (λ (x : ℕ). readBy (lengthIn w f x)) (place-is f p a A h)
 
     pub text-none : n .there ≡ false → textPart w f p ≡ none
     text-none k = length-part p (textIn w f p) ∙ ap (λ (x : Try ℕ). bind x λ n. got (part p n)) (read-none n (lengthIn w f p) length-is k)

@@ -1,33 +1,47 @@
 -- What the answers of questions about header and variables promise.
-use mathlib.Core.Path.{_≡_}
 use Prim.Native.Nat.{ℕ, _+_}
 use mathlib.Core.List.{List, []}
 use mathlib.Core.Bool.{cond, _&&_}
 use lib.ListN.{length}
 use lib.Dec.{eqb, leb}
 use Rattle.questions.specs.Readings.{Try}
-use Rattle.questions.specs.Ask.{Answer, refused, count, part, orRefused, slice}
+use Rattle.questions.specs.Ask.{Answer, refused, count, mark, typed, part, column, labels, cell, plain, long, orRefused, slice}
 use Rattle.answers.specs.declared.Number.{Number}
 use Rattle.answers.specs.declared.Part.{Part}
 
--- ---- what each struct says, and each with a refusal alone
-
-abbrev pub numberBy : Number → Answer
-numberBy r = cond (eqb (r .code) 0) (count (r .value)) (refused (r .code))
+-- ---- the struct of an answer; one of a refusal has its number alone
 
 abbrev pub noNumber : ℕ → Number
 noNumber c = record { code = c; value = 0 }
 
-abbrev pub partBy : Part → Answer
-partBy r = cond (eqb (r .code) 0) (part (r .at) (r .len)) (refused (r .code))
+-- a number
+abbrev pub numberBy : Answer → Number
+numberBy (refused c) = noNumber c
+numberBy (count n) = record { code = 0; value = n }
+numberBy (mark b) = noNumber 17
+numberBy (typed t) = noNumber 17
+numberBy (part p n) = noNumber 17
+numberBy (column t p n) = noNumber 17
+numberBy (labels s) = noNumber 17
+numberBy (cell s) = noNumber 17
+numberBy (plain t) = noNumber 17
+numberBy (long k p n) = noNumber 17
 
 abbrev pub noPart : ℕ → Part
 noPart c = record { code = c; at = 0; len = 0 }
 
--- r says the answer a; and a refusal comes alone
-pub record Tells {R : Type 0} (by : R → Answer) (bare : ℕ → R) (a : Answer) (r : R) : Type 0 where
-  pub is : by r ≡ a
-  pub alone : (c : ℕ) → a ≡ refused c → r ≡ bare c
+-- a part of the file
+abbrev pub partBy : Answer → Part
+partBy (refused c) = noPart c
+partBy (count n) = noPart 17
+partBy (mark b) = noPart 17
+partBy (typed t) = noPart 17
+partBy (part p n) = record { code = 0; at = p; len = n }
+partBy (column t p n) = noPart 17
+partBy (labels s) = noPart 17
+partBy (cell s) = noPart 17
+partBy (plain t) = noPart 17
+partBy (long k p n) = noPart 17
 
 -- ---- inside a question
 

@@ -2,7 +2,7 @@ ghost use mathlib.Core.Path.{_≡_};
 ghost use mathlib.Core.Bool.{cond};
 ghost use Prim.Native.Nat.{_+_, _*_};
 ghost use Rattle.questions.specs.Ask.{textPart};
-ghost use Rattle.answers.specs.Answers.{Tells, noNumber, partBy, noPart, said, partIn};
+ghost use Rattle.answers.specs.Answers.{noNumber, partBy, noPart, said, partIn};
 
 // A number; or a refusal by its number, else 0.
 pub struct Number {
@@ -47,7 +47,7 @@ pub fn refusal(inside: bool, read: bool) -> u8
 
 // The text in field `index` of `w` bytes, counted from 0, of the list at `start`, after a tag of `gap` bytes; refused with `c` unless that is 0.
 pub fn text_field(f: &[u8], c: u8, start: u64, gap: u64, index: u64, w: usize) -> Part
-    ensures { λ r. ⌜ Tells partBy noPart (said c (textPart w (now (f .entry)) (start + gap + index * w))) r ⌝ }
+    ensures { λ r. ⌜ r ≡ partBy (said c (textPart w (now (f .entry)) (start + gap + index * w))) ⌝ }
 {
     if c != 0 {
         return no_part(c);

@@ -9,13 +9,9 @@ use text_facts::Mark;
 use variable_facts::Typed;
 use walks::Long;
 use walks::Words;
-ghost use Rattle.answers.specs.Answers.{numberBy, partBy};
-ghost use Rattle.text_facts.specs.Marks.{markBy};
-ghost use Rattle.variable_facts.specs.Types.{typedBy};
-ghost use Rattle.cells.specs.Cells.{saidOf};
-ghost use Rattle.walks.specs.Answers.{longOf};
+ghost use mathlib.Core.Path.{_≡_};
 ghost use Rattle.checking.specs.Checks.{layoutBy};
-ghost use Rattle.asking.specs.Asking.{Means, MeansWords, Asked};
+ghost use Rattle.asking.specs.Asking.{Asked, byNumber, byPart, byMark, byType, byCell, byLong, byWords};
 
 // A question: of the header; of a variable, counted from 1; of a cell, by variable and observation.
 pub enum Question {
@@ -51,7 +47,7 @@ pub enum Answer {
 }
 
 fn by_number(r: Number) -> Answer
-    ensures { λ x. ⌜ Means (numberBy r) x ⌝ }
+    ensures { λ x. ⌜ x ≡ byNumber r ⌝ }
 {
     if r.code != 0 {
         return Answer::Refused(r.code);
@@ -60,7 +56,7 @@ fn by_number(r: Number) -> Answer
 }
 
 fn by_part(r: Part) -> Answer
-    ensures { λ x. ⌜ Means (partBy r) x ⌝ }
+    ensures { λ x. ⌜ x ≡ byPart r ⌝ }
 {
     if r.code != 0 {
         return Answer::Refused(r.code);
@@ -69,7 +65,7 @@ fn by_part(r: Part) -> Answer
 }
 
 fn by_mark(r: Mark) -> Answer
-    ensures { λ x. ⌜ Means (markBy r) x ⌝ }
+    ensures { λ x. ⌜ x ≡ byMark r ⌝ }
 {
     if r.code != 0 {
         return Answer::Refused(r.code);
@@ -78,7 +74,7 @@ fn by_mark(r: Mark) -> Answer
 }
 
 fn by_type(r: Typed) -> Answer
-    ensures { λ x. ⌜ Means (typedBy r) x ⌝ }
+    ensures { λ x. ⌜ x ≡ byType r ⌝ }
 {
     if r.code != 0 {
         return Answer::Refused(r.code);
@@ -88,7 +84,7 @@ fn by_type(r: Typed) -> Answer
 }
 
 pub fn by_cell(said: Said) -> Answer
-    ensures { λ x. ⌜ Means (saidOf said) x ⌝ }
+    ensures { λ x. ⌜ x ≡ byCell said ⌝ }
 {
     if said.code != 0 {
         return Answer::Refused(said.code);
@@ -98,7 +94,7 @@ pub fn by_cell(said: Said) -> Answer
 }
 
 fn by_long(r: Long) -> Answer
-    ensures { λ x. ⌜ Means (longOf r) x ⌝ }
+    ensures { λ x. ⌜ x ≡ byLong r ⌝ }
 {
     if r.code != 0 {
         return Answer::Refused(r.code);
@@ -107,7 +103,7 @@ fn by_long(r: Long) -> Answer
 }
 
 pub fn by_words(r: Words) -> Answer
-    ensures { λ x. ⌜ MeansWords r x ⌝ }
+    ensures { λ x. ⌜ x ≡ byWords r ⌝ }
 {
     if r.code != 0 {
         return Answer::Refused(r.code);

@@ -24,6 +24,17 @@ says Outside = outside
 says (Text p n) = words p n
 says (Reference v o) = reference v o
 
+-- the cell that says it
+abbrev pub cellBy : Says → Cell
+cellBy (whole n) = Whole n
+cellBy (single x) = Single x
+cellBy (double x) = Double x
+cellBy (letter k) = Letter k
+cellBy between = Between
+cellBy outside = Outside
+cellBy (words p n) = Text p n
+cellBy (reference v o) = Reference v o
+
 -- a letter is at most 26
 abbrev pub Lettered : Says → Type 0
 Lettered (whole n) = Unit

@@ -75,14 +75,14 @@ module _ (f : List ℕ) (l : Layout) (i : ℕ) (q : Opened) where
   pub record Stands (c : Column) (p : ℕ) : Type 0 where
     pub low : 1 ≤ i
     pub high : i + 1 ≤ l .variables
-    pub opened : openedBy q ≡ editionIn (l .release) (l .order)
+    pub opened : q ≡ openedBy (editionIn (l .release) (l .order))
     pub there : q .there ≡ true
     pub start : p ≡ startOf (e .tagged) l 2 n-variable-types
     pub types : List VarType
     pub got-types : layoutTypes e o f l ≡ got types
     pub column : c ≡ by i (got types)
 
-  module _ (Q : openedBy q ≡ editionIn (l .release) (l .order)) (c : Column) (C : c ≡ columnBy (answerOf f l (askColumn i))) (low : 1 ≤ i) (high : i + 1 ≤ l .variables) where
+  module _ (Q : q ≡ openedBy (editionIn (l .release) (l .order))) (c : Column) (C : c ≡ columnBy (answerOf f l (askColumn i))) (low : 1 ≤ i) (high : i + 1 ≤ l .variables) where
     next-in : among (i + 1) (l .variables) ≡ true
     next-in = in-among (i + 1) (l .variables) (omega arith) high
 
@@ -163,7 +163,7 @@ pub record Next (f : List ℕ) (l : Layout) (i : ℕ) (c r : Column) : Type 0 wh
   pub code : r .code ≡ c .code
   pub row : r .row ≡ c .row
 
-module _ (f : List ℕ) (l : Layout) (i : ℕ) (q : Opened) (Q : openedBy q ≡ editionIn (l .release) (l .order)) (c : Column) (C : c ≡ columnBy (answerOf f l (askColumn i))) (low : 1 ≤ i) (high : i + 1 ≤ l .variables)
+module _ (f : List ℕ) (l : Layout) (i : ℕ) (q : Opened) (Q : q ≡ openedBy (editionIn (l .release) (l .order))) (c : Column) (C : c ≡ columnBy (answerOf f l (askColumn i))) (low : 1 ≤ i) (high : i + 1 ≤ l .variables)
     (n : length f ≤ 18446744073709551615) (p : ℕ) (P : p ≡ capped (startOf (numbersOf (q .e) .tagged) l 2 n-variable-types)) where
   -- in a file whose types are read their place is not capped
   at-start : c .code ≡ 0 → Stands f l i q c p

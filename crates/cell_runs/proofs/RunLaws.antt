@@ -5,7 +5,7 @@ use native.Mathlib.Nat.{zero-mul}
 use native.Mathlib.Numerals.{add-one}
 use native.Mathlib.Omega.{arith}
 use mathlib.Core.List.{List, _++_}
-use mathlib.Core.Bool.{Bool, true, false, cond}
+use mathlib.Core.Bool.{Bool, true, false, cond, _&&_}
 use borrow.Rule.Slice.PartMut.{putMid}
 use borrow.Author.Tests.{le-leb, lt-leb, leb-true, leb-false, lt-ltb}
 use lib.ListN.{length, take, drop}
@@ -14,8 +14,9 @@ use lib.IntN.{pos, negsuc}
 use Rattle.format.specs.Cells.{whole, single, double, letter, between, outside, words, reference}
 use Rattle.format.specs.Dta.{Layout}
 use Rattle.text.proofs.Lay.{Laid, laid-none, laid-part, laid-as}
-use Rattle.questions.specs.Ask.{Question, Answer, refused, count, mark, typed, part, column, cell, plain, long, answerOf, among}
-use Rattle.coded.specs.Coded.{numbersOf, told, following, least, Tells}
+use Rattle.questions.specs.Ask.{Question, unlabelled, labelled, Answer, refused, count, mark, typed, part, column, labels, cell, plain, long, askCell, answerOf, among, inRange}
+use Rattle.coded.specs.declared.Run as Code
+use Rattle.coded.specs.Coded.{numbersOf, told, following, least, runOf, Tells}
 use Rattle.columns.proofs.ColumnLaws.{among-in}
 
 -- ---- how many
@@ -52,6 +53,23 @@ following-in i k m h = go (among i k) refl
         (b .0, omega (arith, b .0, b .1, n, h))
     go false e = let n : following i k ≡ 0 = ap (λ (t : Bool). cond t (suc k - i) 0) e in absurd (omega (arith, n, h))
 
+-- ---- the answer
+
+none-or : (t : Bool) (x : ℕ) → cond t x 0 ≤ x
+none-or true x = omega arith
+none-or false x = omega arith
+
+-- a and b tell whether variable and observation are there
+module _ (l : Layout) (i j n x : ℕ) (a b : Bool) (A : a ≡ among i (l .variables)) (B : b ≡ among j (l .rows)) where
+  both : inRange l (askCell i j) ≡ (a && b)
+  both = sym (λ z. A z && B z)
+
+  pub run-there : (a && b) ≡ true → (m : ℕ) → m ≡ least (x / 4) n → record { code = 0; count = m } ≡ runOf l i j n x
+  run-there h m M = rw (both ∙ h, M) refl
+
+  pub run-none : (a && b) ≡ false → record { code = 16; count = 0 } ≡ runOf l i j n x
+  run-none h = rw (both ∙ h) refl
+
 -- ---- the loop
 
 four-long : (a : Answer) → length (numbersOf a) ≡ 4
@@ -61,6 +79,8 @@ four-long (mark b) = refl
 four-long (typed t) = refl
 four-long (part p n) = refl
 four-long (column t p n) = refl
+four-long (labels unlabelled) = refl
+four-long (labels (labelled p n)) = refl
 four-long (cell (whole (pos n))) = refl
 four-long (cell (whole (negsuc n))) = refl
 four-long (cell (single x)) = refl
@@ -73,41 +93,47 @@ four-long (cell (reference v o)) = refl
 four-long (plain t) = refl
 four-long (long k p n) = refl
 
--- of r answers, as many as d has room for and at most those from i up to k, the first m are laid over d
-pub record Run (f : List ℕ) (l : Layout) (q : ℕ → Question) (i k : ℕ) (d : List ℕ) (r m : ℕ) (w : List ℕ) : Type 0 where
-  pub many : r ≡ least (length d / 4) (following i k)
+-- of the r answers of the run from cell i, j on, as many as d has room for and at most those from a up to k, the first m are laid over d
+pub record Run (f : List ℕ) (l : Layout) (i j : ℕ) (q : ℕ → Question) (a k : ℕ) (d : List ℕ) (r m : ℕ) (w : List ℕ) : Type 0 where
+  pub many : r ≡ runOf l i j (following a k) (length d) .count
   pub upto : m ≤ r
   pub laid : Laid (told f l q m) (m * 4) d w
 
-module _ (f : List ℕ) (l : Layout) (q : ℕ → Question) (i k : ℕ) (d : List ℕ) (r : ℕ) where
-  pub run-start : r ≡ least (length d / 4) (following i k) → Run f l q i k d r 0 d
+module _ (f : List ℕ) (l : Layout) (i j : ℕ) (q : ℕ → Question) (a k : ℕ) (d : List ℕ) (r : Code.Run) where
+  pub run-start : r ≡ runOf l i j (following a k) (length d) → Run f l i j q a k d (r .count) 0 d
   unfolding told
-  run-start e = record { many = e; upto = omega arith; laid = laid-as (laid-none d) refl (sym (zero-mul 4)) }
+  run-start e = record { many = ap (λ (x : Code.Run). x .count) e; upto = omega arith; laid = laid-as (laid-none d) refl (sym (zero-mul 4)) }
 
-module _ {f : List ℕ} {l : Layout} {q : ℕ → Question} {i k : ℕ} {d : List ℕ} {r m : ℕ} {w : List ℕ} (R : Run f l q i k d r m w) where
-  pub run-end : r ≤ m → Tells f l q (following i k) d w r
-  run-end h = let e : m ≡ r = omega arith in record { many = R .many; out = R .laid .is ∙ ap (λ (x : ℕ). told f l q x ++ drop (x * 4) d) e }
+module _ {f : List ℕ} {l : Layout} {i j : ℕ} {q : ℕ → Question} {a k : ℕ} {d : List ℕ} {r m : ℕ} {w : List ℕ} (R : Run f l i j q a k d r m w) where
+  pub run-end : r ≤ m → (x : Code.Run) → x ≡ runOf l i j (following a k) (length d) → Tells f l i j q (following a k) d w x
+  run-end h x X =
+      let e : m ≡ r = omega arith in
+      let c : m ≡ x .count = e ∙ R .many ∙ sym (ap (λ (y : Code.Run). y .count) X) in
+      record { answer = X; out = R .laid .is ∙ ap (λ (n : ℕ). told f l q n ++ drop (n * 4) d) c }
 
   pub run-long : length w ≡ length d
   run-long = R .laid .whole
 
+  few : r ≤ least (length d / 4) (following a k)
+  few = omega (arith, R .many, none-or (inRange l (askCell i j)) (least (length d / 4) (following a k)))
+
   module _ (h : m < r) where
     -- the next one's number
-    pub run-in : (1 ≤ i) × (i + m ≤ k)
-    run-in = following-in i k m (omega (arith, h, R .many, least-both (length d / 4) (following i k) .1))
+    pub run-in : (1 ≤ a) × (a + m ≤ k)
+    run-in = following-in a k m (omega (arith, h, few, least-both (length d / 4) (following a k) .1))
 
     -- there is room for it
     pub run-room : m * 4 + 4 ≤ length w
-    run-room = omega (arith, h, R .many, R .laid .whole, least-both (length d / 4) (following i k) .0)
+    run-room = omega (arith, h, few, R .laid .whole, least-both (length d / 4) (following a k) .0)
 
     -- it is laid after the others
-    pub run-on : (a : Answer) (p : List ℕ) → a ≡ answerOf f l (q m) → p ≡ numbersOf a ++ drop 4 (take (length w - m * 4) (drop (m * 4) w))
-        → Run f l q i k d r (m + 1) (putMid (m * 4) (length w - m * 4) w p)
+    pub run-on : (x : Answer) (p : List ℕ) → x ≡ answerOf f l (q m) → p ≡ numbersOf x ++ drop 4 (take (length w - m * 4) (drop (m * 4) w))
+        → Run f l i j q a k d r (m + 1) (putMid (m * 4) (length w - m * 4) w p)
     unfolding told
-    run-on a p A e =
+    run-on x p A e =
         let g = numbersOf (answerOf f l (q m)) in
         let s : told f l q m ++ g ≡ told f l q (m + 1) = sym (ap (told f l q) (add-one m)) in
-        let E = e ∙ ap (λ (x : Answer). numbersOf x ++ drop 4 (take (length w - m * 4) (drop (m * 4) w))) A in
+        let E = e ∙ ap (λ (y : Answer). numbersOf y ++ drop 4 (take (length w - m * 4) (drop (m * 4) w))) A in
         record {
           many = R .many;
           upto = omega arith;

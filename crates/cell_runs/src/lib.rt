@@ -2,6 +2,7 @@
 // type code.
 use cells::Said;
 use checking::Layout;
+use coded::Run;
 use columns::Column;
 ghost use mathlib.Core.Path.{_≡_};
 ghost use mathlib.Core.List.{_++_};
@@ -11,7 +12,7 @@ ghost use Rattle.format.specs.Number.{orderBy};
 ghost use Rattle.questions.specs.Ask.{place, askCell};
 ghost use Rattle.checking.specs.Checks.{layoutBy};
 ghost use Rattle.columns.specs.Columns.{capped};
-ghost use Rattle.cells.specs.Cells.{saidOf};
+ghost use Rattle.asking.specs.Asking.{answerBy, byCell};
 ghost use Rattle.coded.specs.Coded as Coded;
 ghost use Rattle.coded.specs.Coded.{numbersOf, Tells};
 ghost use Rattle.cell_runs.specs.Next.{nextColumn, NextInside};
@@ -74,26 +75,34 @@ fn following(i: u64, k: u64) -> u64
     k - i + 1
 }
 
-// How many answers of four numbers `room` numbers can hold, at most those from `i` up to `k`.
-pub fn how_many(room: usize, i: u64, k: u64) -> usize
-    ensures { λ r. ⌜ r ≡ Coded.least (room / 4) (Coded.following i k) ⌝ }
+// The answer of a run that begins with the cell of variable `i` and observation `j`: 16 where there is no such cell; else how many answers of four
+// numbers `room` numbers can hold, at most those from `first` up to `last`.
+pub fn run_of(l: Layout, i: u64, j: u64, first: u64, last: u64, room: usize) -> Run
+    ensures { λ r. ⌜ r ≡ Coded.runOf (layoutBy l) i j (Coded.following first last) room ⌝ }
 {
-    least(room / 4, following(i, k))
+    if reading::is_among(i, l.k) & reading::is_among(j, l.n) {
+        return Run {
+            code: 0,
+            count: least(room / 4, following(first, last)),
+        };
+    }
+    Run { code: 16, count: 0 }
 }
 
 // Stores what a cell says at the start of `out`.
 fn put_said(out: &mut [u64], x: Said)
     requires { ⌜ 4 ≤ length (now out) ⌝ }
-    ensures { λ _. ⌜ now (out .exit) ≡ numbersOf (saidOf x) ++ drop 4 (now (out .entry)) ⌝ }
+    ensures { λ _. ⌜ now (out .exit) ≡ numbersOf (answerBy (byCell x)) ++ drop 4 (now (out .entry)) ⌝ }
 {
     coded::put_four(out, coded::numbers_of(asking::by_cell(x)));
 }
 
-// The cells of variable `i` from observation `j` on, four numbers each, as many as `out` has room for; gives how many.
-pub fn cells_down(f: &[u8], l: Layout, i: u64, j: u64, out: &mut [u64]) -> usize
-    ensures { λ r. ⌜ Tells (now (f .entry)) (layoutBy l) (λ (m : ℕ). askCell i (j + m)) (Coded.following j (l .n)) (now (out .entry)) (now (out .exit)) r ⌝ }
+// The cells of variable `i` from observation `j` on, four numbers each, as many as `out` has room for.
+pub fn cells_down(f: &[u8], l: Layout, i: u64, j: u64, out: &mut [u64]) -> Run
+    ensures { λ r. ⌜ Tells (now (f .entry)) (layoutBy l) i j (λ (m : ℕ). askCell i (j + m)) (Coded.following j (l .n)) (now (out .entry)) (now (out .exit)) r ⌝ }
 {
-    let n = how_many(out.len(), j, l.n);
+    let r = run_of(l, i, j, j, l.n, out.len());
+    let n = r.count;
     let o = reading::edition_in(l.edition, l.order);
     let start = place_of(l, 9);
     let gap = reading::tag_size(o.e.tagged, 6);
@@ -115,14 +124,15 @@ pub fn cells_down(f: &[u8], l: Layout, i: u64, j: u64, out: &mut [u64]) -> usize
         put_said(&mut out[m * 4..], x);
         m += 1;
     }
-    n
+    r
 }
 
-// The cells of observation `j` from variable `i` on, four numbers each, as many as `out` has room for; gives how many.
-pub fn cells_along(f: &[u8], l: Layout, i: u64, j: u64, out: &mut [u64]) -> usize
-    ensures { λ r. ⌜ Tells (now (f .entry)) (layoutBy l) (λ (m : ℕ). askCell (i + m) j) (Coded.following i (l .k)) (now (out .entry)) (now (out .exit)) r ⌝ }
+// The cells of observation `j` from variable `i` on, four numbers each, as many as `out` has room for.
+pub fn cells_along(f: &[u8], l: Layout, i: u64, j: u64, out: &mut [u64]) -> Run
+    ensures { λ r. ⌜ Tells (now (f .entry)) (layoutBy l) i j (λ (m : ℕ). askCell (i + m) j) (Coded.following i (l .k)) (now (out .entry)) (now (out .exit)) r ⌝ }
 {
-    let n = how_many(out.len(), i, l.k);
+    let r = run_of(l, i, j, i, l.k, out.len());
+    let n = r.count;
     let o = reading::edition_in(l.edition, l.order);
     let types = add_capped(place_of(l, 2), reading::tag_size(o.e.tagged, 16));
     let start = place_of(l, 9);
@@ -149,5 +159,5 @@ pub fn cells_along(f: &[u8], l: Layout, i: u64, j: u64, out: &mut [u64]) -> usiz
             c = column_after(f, types, c, v, o.e.tagged, o.msf);
         }
     }
-    n
+    r
 }

@@ -10,10 +10,10 @@ use lib.Dec.{eqb, leb, ltb}
 use borrow.Author.Tests.{le-leb, lt-leb, leb-true, leb-false, lt-ltb, le-ltb, ltb-true, ltb-false}
 use Rattle.format.specs.Number.{Order, orderBy, num}
 use Rattle.format.specs.Grammar.{rowWidth, textAt}
-use Rattle.format.specs.Edition.{Edition, codeWidth, textMax, n-variable-types, n-data}
+use Rattle.format.specs.Edition.{Edition, Release, edition, codeWidth, textMax, n-variable-types, n-data}
 use Rattle.format.specs.Variables.{VarType, textType, strLType, byteType, intType, longType, floatType, doubleType, typeBy, hasType}
 use Rattle.format.specs.Data.{cellWidth}
-use Rattle.format.specs.Cells.{Says, words, saysAt}
+use Rattle.format.specs.Cells.{Says, whole, single, double, letter, between, outside, words, reference, saysAt}
 use Rattle.format.specs.Dta.{Layout}
 use Rattle.format.proofs.Good.{and-left, and-right}
 use Rattle.codes.specs.declared.Kind.{Kind}
@@ -23,25 +23,77 @@ use Rattle.codes.specs.Fields.{fieldBy, known, typeOf}
 use Rattle.codes.proofs.Laws.{type-back, type-known}
 use Rattle.cell.specs.declared.Cell.{Cell}
 use Rattle.cell.specs.declared.Cell.the-variants as Variants
-use Rattle.cell.specs.Cells.{says, Lettered, IsCell}
+use Rattle.cell.specs.Cells.{says, cellBy, Lettered, IsCell}
+use Rattle.cell.proofs.CellLaws.{lettered-at}
 use Rattle.editions.specs.Editions.{numbersOf}
 use Rattle.questions.specs.Readings.{Try, none, got, bind, test, room, textNeeds, textIn}
-use Rattle.questions.specs.Ask.{Question, Answer, refused, column, cell, orRefused, inRange, among, typeIn, typesIn, layoutTypes, columnIn, cellNeeds, cellAt, cellIn, cellPlace, offsetIn, widthIn, startOf, answerOf, answerIn, askColumn, askCell}
+use Rattle.questions.specs.Ask.{Question, Answer, refused, column, cell, orRefused, releaseIn, orderIn, inRange, among, typeIn, typesIn, layoutTypes, columnIn, cellNeeds, cellAt, cellIn, cellPlace, offsetIn, widthIn, startOf, answerOf, answerIn, askColumn, askCell}
 use Rattle.reading.specs.declared.Read.{Read}
 use Rattle.reading.specs.declared.Opened.{Opened}
-use Rattle.reading.specs.Reads.{tryOf, lengthIn, openedBy, editionIn}
+use Rattle.reading.specs.Reads.{readBy, lengthIn, openedBy, editionIn}
 use Rattle.reading.proofs.ReadLaws.{room-got, room-none}
 use Rattle.reading.proofs.AnswerLaws.{answer-out, answer-shut, answer-open, edition-got}
 use Rattle.columns.specs.declared.Column.{Column}
 use Rattle.cells.specs.declared.Said.{Said}
 use Rattle.columns.specs.Columns.{capped, noColumn, columnBy}
-use Rattle.cells.specs.Cells.{saidOf, noSaid, Saids, isText, cellSaid}
+use Rattle.cells.specs.Cells.{noSaid, saidBy, isText, cellSaid}
 use Rattle.columns.proofs.ColumnLaws.{capped-le, capped-is, among-in, consed, type-is}
 
 -- ---- answers
 
-pub said-none : (a : Answer) (c : ℕ) (r : Said) → r ≡ noSaid c → saidOf (noSaid c) ≡ a → Saids a r
-said-none a c r e h = subst (λ (y : Said). Saids a y) (sym e) (record { is = h; alone = λ q. refl; letters = tt })
+pub said-none : (a : Answer) (c : ℕ) (r : Said) → r ≡ noSaid c → refused c ≡ a → r ≡ saidBy a
+said-none a c r e h = e ∙ ap saidBy h
+
+-- a cell is what it says
+pub cell-back : (c : Cell) → cellBy (says c) ≡ c
+cell-back (Variants.Whole n) = refl
+cell-back (Variants.Single x) = refl
+cell-back (Variants.Double x) = refl
+cell-back (Variants.Letter k) = refl
+cell-back Variants.Between = refl
+cell-back Variants.Outside = refl
+cell-back (Variants.Text p n) = refl
+cell-back (Variants.Reference v o) = refl
+
+pub says-back : (s : Says) → says (cellBy s) ≡ s
+says-back (whole n) = refl
+says-back (single x) = refl
+says-back (double x) = refl
+says-back (letter k) = refl
+says-back between = refl
+says-back outside = refl
+says-back (words p n) = refl
+says-back (reference v o) = refl
+
+pub said-cell : (a : Answer) (c : Cell) → cell (says c) ≡ a → record { code = 0; cell = c } ≡ saidBy a
+said-cell a c h = ap (λ (y : Cell). record { code = 0; cell = y }) (sym (cell-back c)) ∙ ap saidBy h
+
+-- a letter that is read is at most 26
+asked-lettered : (f : List ℕ) (l : Layout) (i j : ℕ) → Lettered (says (saidBy (answerOf f l (askCell i j)) .cell))
+unfolding answerOf
+asked-lettered f l i j = go (inRange l (askCell i j)) refl (releaseIn (l .release)) refl (orderIn (l .order)) refl
+  where
+    go : (b : Bool) → inRange l (askCell i j) ≡ b → (r : Try Release) → releaseIn (l .release) ≡ r → (o : Try Order) → orderIn (l .order) ≡ o
+        → Lettered (says (saidBy (answerOf f l (askCell i j)) .cell))
+    go false a r b o c = rw a tt
+    go true a none b o c = rw (a, b) tt
+    go true a (got r) b none c = rw (a, b, c) tt
+    go true a (got r) b (got o) c = rw (a, b, c) (types (layoutTypes (edition r) o f l))
+      where
+        at : (x : VarType) (p : ℕ) (b : Bool) → Lettered (says (saidBy (orRefused (bind (bind (test b) λ u. got (saysAt o (edition r .vWidth) (edition r .oWidth) x f p)) λ s. got (cell s))) .cell))
+        at x p false = tt
+        at x p true = subst Lettered (sym (says-back (saysAt o (edition r .vWidth) (edition r .oWidth) x f p))) (lettered-at o (edition r .vWidth) (edition r .oWidth) x f p)
+
+        types : (t : Try (List VarType))
+            → Lettered (says (saidBy (orRefused (bind (bind t λ t. cellAt (edition r) o f (getD t (i - 1) byteType) (cellPlace (edition r) t (startOf (edition r .tagged) l 9 n-data) i j)) λ s. got (cell s))) .cell))
+        types none = tt
+        types (got t) =
+            let x = getD t (i - 1) byteType in
+            let p = cellPlace (edition r) t (startOf (edition r .tagged) l 9 n-data) i j in
+            at x p (leb (p + cellNeeds (edition r) x f p) (length f))
+
+pub said-lettered : (f : List ℕ) (l : Layout) (i j : ℕ) {r : Said} → r ≡ saidBy (answerOf f l (askCell i j)) → Lettered (says (r .cell))
+said-lettered f l i j e = subst (λ (y : Said). Lettered (says (y .cell))) (sym e) (asked-lettered f l i j)
 
 -- ---- a cell at a place
 
@@ -83,11 +135,11 @@ module _ (e : Edition) (o : Order) (f : List ℕ) where
     cell-out b = let g : length f < p + cellNeeds e (typeOf k w) f p = omega (arith, b, W, needs-width k w p h n) in rw (room-none f p (cellNeeds e (typeOf k w) f p) g)
 
     pub cell-got : p + w ≤ length f → (c : Cell) → IsCell (saysAt o (e .vWidth) (e .oWidth) (typeOf k w) f p) c
-        → Saids (cellSaid e o f (typeOf k w) p) (record { code = 0; cell = c })
+        → record { code = 0; cell = c } ≡ saidBy (cellSaid e o f (typeOf k w) p)
     unfolding cellSaid
     cell-got b c i =
         let g : p + cellNeeds e (typeOf k w) f p ≤ length f = omega (arith, b, W, needs-width k w p h n) in
-        record { is = rw (room-got f p (cellNeeds e (typeOf k w) f p) g) (ap cell (i .is)); alone = λ q. absurd (q refl); letters = i .letters }
+        said-cell (cellSaid e o f (typeOf k w) p) c (rw (room-got f p (cellNeeds e (typeOf k w) f p) g) (ap cell (i .is)))
 
   -- ---- a cell past the file
 
@@ -127,7 +179,7 @@ types-has t o f (suc n) p l e (suc m) h =
 
 -- ---- a column and a row
 
-module _ (f : List ℕ) (l : Layout) (i j : ℕ) (q : Opened) (Q : openedBy q ≡ editionIn (l .release) (l .order)) (c : Column) (C : c ≡ columnBy (answerOf f l (askColumn i))) where
+module _ (f : List ℕ) (l : Layout) (i j : ℕ) (q : Opened) (Q : q ≡ openedBy (editionIn (l .release) (l .order))) (c : Column) (C : c ≡ columnBy (answerOf f l (askColumn i))) where
   abbrev e : Edition
   e = numbersOf (q .e)
 
@@ -265,8 +317,8 @@ width-is vw ow e longType = refl
 width-is vw ow e floatType = refl
 width-is vw ow e doubleType = refl
 
-pub text-kind : (e : Edition) (o : Order) (f : List ℕ) (k : Kind) (w p : ℕ) → isText k ≡ true → (r : Said) → Saids (cellSaid e o f (textType w) p) r
-    → Saids (cellSaid e o f (typeOf k w) p) r
+pub text-kind : (e : Edition) (o : Order) (f : List ℕ) (k : Kind) (w p : ℕ) → isText k ≡ true → (r : Said) → r ≡ saidBy (cellSaid e o f (textType w) p)
+    → r ≡ saidBy (cellSaid e o f (typeOf k w) p)
 text-kind e o f Text w p h r s = s
 text-kind e o f StrL w p h r s = absurd (false≢true h)
 text-kind e o f Byte w p h r s = absurd (false≢true h)

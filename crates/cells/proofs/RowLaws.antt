@@ -14,17 +14,17 @@ use Rattle.format.specs.Data.{cellWidth}
 use Rattle.format.specs.Dta.{Layout}
 use Rattle.codes.specs.Fields.{typeOf}
 use Rattle.editions.specs.Editions.{numbersOf}
-use Rattle.questions.specs.Ask.{Answer, refused, among, startOf, answerOf, askColumn, askCell}
-use Rattle.reading.specs.declared.Read.{Read}
+use Rattle.questions.specs.Ask.{refused, among, startOf, answerOf, askColumn, askCell}
+use Rattle.questions.specs.Readings.{Try}
 use Rattle.reading.specs.declared.Opened.{Opened}
-use Rattle.reading.specs.Reads.{tryOf, placeIn, openedBy, editionIn}
+use Rattle.reading.specs.Reads.{readBy, placeIn, openedBy, editionIn}
 use Rattle.reading.proofs.AnswerLaws.{edition-widths}
 use Rattle.columns.specs.declared.Column.{Column}
 use Rattle.columns.specs.Columns.{capped, columnBy}
 use Rattle.cells.specs.declared.Said.{Said}
 use Rattle.cells.specs.declared.Row.{Row}
-use Rattle.cells.specs.Cells.{Saids, cellSaid, HasKind, noRow, rowBy, rowIn, RowRead, RowSaid}
-use Rattle.cells.proofs.CellLaws.{said-none, cell-away, row-away, cell-none, stands, cell-past, far, kind-known, width-is, capped-said}
+use Rattle.cells.specs.Cells.{noSaid, saidBy, cellSaid, HasKind, noRow, rowBy, rowIn, RowRead, saidIn, RowSaid}
+use Rattle.cells.proofs.CellLaws.{cell-away, row-away, cell-none, stands, cell-past, far, kind-known, width-is, capped-said}
 
 -- ---- a row
 
@@ -41,9 +41,9 @@ module _ (f : List ℕ) (c w j n p : ℕ) where
   unfolding rowIn
   row-lost a h z = rw (ne-eqb c 16 a, h, ne-eqb c 0 z)
 
-  pub row-read : c ≡ 0 → among j n ≡ true → (r : Read) → tryOf r ≡ placeIn f (p + (j - 1) * w) → rowBy (tryOf r) ≡ rowIn f c w j n p
+  pub row-read : c ≡ 0 → among j n ≡ true → (t : Try ℕ) → t ≡ placeIn f (p + (j - 1) * w) → rowBy t ≡ rowIn f c w j n p
   unfolding rowIn
-  row-read z h r e = rw (z, h, e)
+  row-read z h t e = rw (z, h, e)
 
   -- what r is
   pub data Is (r : Row) : Type 0 where
@@ -66,7 +66,14 @@ module _ (f : List ℕ) (c w j n p : ℕ) where
 
 -- ---- a cell in it
 
-module _ (f : List ℕ) (l : Layout) (i j : ℕ) (q : Opened) (Q : openedBy q ≡ editionIn (l .release) (l .order)) (c : Column) (C : c ≡ columnBy (answerOf f l (askColumn i)))
+module _ (e : Edition) (o : Order) (f : List ℕ) (x : Row) (t : VarType) (n : ℕ) {r : Said} where
+  pub row-refused : (x .code ≡ 0 → ⊥) → r ≡ noSaid (x .code) → r ≡ saidIn e o f x t n
+  row-refused z h = h ∙ rw (ne-eqb (x .code) 0 z)
+
+  pub row-here : x .code ≡ 0 → r ≡ saidBy (cellSaid e o f t (x .at + n)) → r ≡ saidIn e o f x t n
+  row-here z h = h ∙ rw z
+
+module _ (f : List ℕ) (l : Layout) (i j : ℕ) (q : Opened) (Q : q ≡ openedBy (editionIn (l .release) (l .order))) (c : Column) (C : c ≡ columnBy (answerOf f l (askColumn i)))
     (r : Row) (R : r ≡ rowIn f (c .code) (c .row) j (l .rows) (startOf (numbersOf (q .e) .tagged) l 9 n-data)) where
   abbrev e : Edition
   e = numbersOf (q .e)
@@ -136,13 +143,9 @@ module _ (f : List ℕ) (l : Layout) (i j : ℕ) (q : Opened) (Q : openedBy q �
     pub can-read : RowRead f r (c .kind) (c .width) (e .vWidth) (e .oWidth)
     can-read = record { inside = λ z. ready n z .inside; kind = λ z. ready n z .kind }
 
-    pub said-in : (x : Said) → RowSaid (e .vWidth) (e .oWidth) o f r (typeOf (c .kind) (c .width)) (c .offset) x → Saids (answerOf f l (askCell i j)) x
-    said-in x X = go (eqb (r .code) 0) refl
+    pub said-in : (x : Said) → RowSaid (e .vWidth) (e .oWidth) o f r (typeOf (c .kind) (c .width)) (c .offset) x → x ≡ saidBy (answerOf f l (askCell i j))
+    said-in x X = X e refl refl ∙ go (eqb (r .code) 0) refl
       where
-        go : (b : Bool) → eqb (r .code) 0 ≡ b → Saids (answerOf f l (askCell i j)) x
-        go true b =
-            let z = eqb-true (r .code) 0 b in
-            subst (λ (a : Answer). Saids a x) (ready n z .is) (X .here z e refl refl)
-        go false b =
-            let z = eqb-false (r .code) 0 b in
-            said-none (answerOf f l (askCell i j)) (r .code) x (X .away z) (rw b (refused-in z))
+        go : (b : Bool) → eqb (r .code) 0 ≡ b → saidIn e o f r (typeOf (c .kind) (c .width)) (c .offset) ≡ saidBy (answerOf f l (askCell i j))
+        go true b = rw b (ap saidBy (ready n (eqb-true (r .code) 0 b) .is))
+        go false b = rw b (ap saidBy (refused-in (eqb-false (r .code) 0 b)))

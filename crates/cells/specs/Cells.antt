@@ -13,26 +13,29 @@ use Rattle.codes.specs.declared.Kind.{Kind}
 use Rattle.codes.specs.declared.Kind.the-variants.{Text, StrL, Byte, Int, Long, Float, Double, Unknown}
 use Rattle.codes.specs.Fields.{known, typeOf}
 use Rattle.cell.specs.declared.Cell.the-variants.{Outside}
-use Rattle.cell.specs.Cells.{says, Lettered}
+use Rattle.cell.specs.Cells.{cellBy}
 use Rattle.questions.specs.Readings.{Try, none, got, bind}
-use Rattle.questions.specs.Ask.{Answer, refused, cell, orRefused, among, cellAt}
+use Rattle.questions.specs.Ask.{Answer, refused, count, mark, typed, part, column, labels, cell, plain, long, orRefused, among, cellAt}
 use Rattle.reading.specs.Reads.{placeIn}
 use Rattle.cells.specs.declared.Said.{Said}
 use Rattle.cells.specs.declared.Row.{Row}
 
--- the answer that a cell's content is: a refusal by its number, or what the cell says
-abbrev pub saidOf : Said → Answer
-saidOf r = cond (eqb (r .code) 0) (cell (says (r .cell))) (refused (r .code))
-
--- a refusal
+-- a refusal: its number alone
 abbrev pub noSaid : ℕ → Said
 noSaid c = record { code = c; cell = Outside }
 
--- r is the answer a; a refusal comes alone; a letter is at most 26
-pub record Saids (a : Answer) (r : Said) : Type 0 where
-  pub is : saidOf r ≡ a
-  pub alone : (r .code ≡ 0 → ⊥) → r ≡ noSaid (r .code)
-  pub letters : Lettered (says (r .cell))
+-- the content of a cell, of an answer
+abbrev pub saidBy : Answer → Said
+saidBy (refused c) = noSaid c
+saidBy (count n) = noSaid 17
+saidBy (mark b) = noSaid 17
+saidBy (typed t) = noSaid 17
+saidBy (part p n) = noSaid 17
+saidBy (column t p n) = noSaid 17
+saidBy (labels s) = noSaid 17
+saidBy (cell s) = record { code = 0; cell = cellBy s }
+saidBy (plain t) = noSaid 17
+saidBy (long k p n) = noSaid 17
 
 -- the kind is a text
 abbrev pub isText : Kind → Bool
@@ -51,7 +54,7 @@ cellSaid e o f t p = orRefused (bind (cellAt e o f t p) λ s. got (cell s))
 
 -- r is the answer for the text of w bytes at p, in any edition and order
 abbrev pub TextSaid : ℕ → List ℕ → ℕ → Said → Type 0
-TextSaid w f p r = (e : Edition) (o : Order) → Saids (cellSaid e o f (textType w) p) r
+TextSaid w f p r = (e : Edition) (o : Order) → r ≡ saidBy (cellSaid e o f (textType w) p)
 
 -- the kind is known, the width is that of its cells, and v and o have at most 8 bytes
 pub record HasKind (k : Kind) (w vw ow : ℕ) : Type 0 where
@@ -62,7 +65,7 @@ pub record HasKind (k : Kind) (w vw ow : ℕ) : Type 0 where
 
 -- r is the answer for the cell of a type at p, in any edition with these widths of v and o
 abbrev pub CellSaid : ℕ → ℕ → Order → List ℕ → VarType → ℕ → Said → Type 0
-CellSaid vw ow o f t p r = (e : Edition) → e .vWidth ≡ vw → e .oWidth ≡ ow → Saids (cellSaid e o f t p) r
+CellSaid vw ow o f t p r = (e : Edition) → e .vWidth ≡ vw → e .oWidth ≡ ow → r ≡ saidBy (cellSaid e o f t p)
 
 -- ---- rows
 
@@ -86,7 +89,10 @@ pub record RowRead (f : List ℕ) (x : Row) (k : Kind) (w vw ow : ℕ) : Type 0 
   pub inside : x .code ≡ 0 → x .at ≤ length f
   pub kind : x .code ≡ 0 → HasKind k w vw ow
 
--- r is the answer for the cell of a type that stands n bytes into the row: the row's refusal, or what the cell says
-pub record RowSaid (vw ow : ℕ) (o : Order) (f : List ℕ) (x : Row) (t : VarType) (n : ℕ) (r : Said) : Type 0 where
-  pub away : (x .code ≡ 0 → ⊥) → r ≡ noSaid (x .code)
-  pub here : x .code ≡ 0 → CellSaid vw ow o f t (x .at + n) r
+-- the cell of a type that stands n bytes into the row: the row's refusal, or what the cell says
+abbrev pub saidIn : Edition → Order → List ℕ → Row → VarType → ℕ → Said
+saidIn e o f x t n = cond (eqb (x .code) 0) (saidBy (cellSaid e o f t (x .at + n))) (noSaid (x .code))
+
+-- r is that, in any edition with these widths of v and o
+abbrev pub RowSaid : ℕ → ℕ → Order → List ℕ → Row → VarType → ℕ → Said → Type 0
+RowSaid vw ow o f x t n r = (e : Edition) → e .vWidth ≡ vw → e .oWidth ≡ ow → r ≡ saidIn e o f x t n

@@ -8,7 +8,7 @@ ghost use Rattle.format.specs.Number.{orderBy};
 ghost use Rattle.questions.specs.Ask.{answerOf, askColumn, askCell};
 ghost use Rattle.checking.specs.Checks.{layoutBy};
 ghost use Rattle.columns.specs.Columns.{columnBy};
-ghost use Rattle.cells.specs.Cells.{noSaid, Saids, isText, TextSaid, HasKind, CellSaid, noRow, rowIn, RowRead, RowSaid};
+ghost use Rattle.cells.specs.Cells.{noSaid, saidBy, isText, TextSaid, HasKind, CellSaid, noRow, rowIn, RowRead, RowSaid};
 ghost use Rattle.codes.specs.Fields.{typeOf};
 
 // A cell's content: the refusal number; where it is 0, what the cell says.
@@ -138,7 +138,7 @@ pub fn cell_in_row(
 // What cell `i`, `j` says, where `c` is where the cells of variable `i` stand.
 pub fn cell_in_column(f: &[u8], l: Layout, c: Column, i: u64, j: u64) -> Said
     requires { ⌜ c ≡ columnBy (answerOf (now f) (layoutBy l) (askColumn i)) ⌝ }
-    ensures { λ r. ⌜ Saids (answerOf (now (f .entry)) (layoutBy l) (askCell i j)) r ⌝ }
+    ensures { λ r. ⌜ r ≡ saidBy (answerOf (now (f .entry)) (layoutBy l) (askCell i j)) ⌝ }
 {
     let o = reading::edition_in(l.edition, l.order);
     let a = reading::tag_size(o.e.tagged, 6);
@@ -158,7 +158,7 @@ pub fn cell_in_column(f: &[u8], l: Layout, c: Column, i: u64, j: u64) -> Said
 
 // What cell `i`, `j` says.
 pub fn cell_of(f: &[u8], l: Layout, i: u64, j: u64) -> Said
-    ensures { λ r. ⌜ Saids (answerOf (now (f .entry)) (layoutBy l) (askCell i j)) r ⌝ }
+    ensures { λ r. ⌜ r ≡ saidBy (answerOf (now (f .entry)) (layoutBy l) (askCell i j)) ⌝ }
 {
     let c = columns::column_of(f, l, i);
     cell_in_column(f, l, c, i, j)

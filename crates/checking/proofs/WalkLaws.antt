@@ -4,15 +4,16 @@ use Prim.Native.Nat.{ℕ, _+_, _*_, _≤_, _<_}
 use native.Mathlib.Omega.{arith}
 use mathlib.Core.List.{List, [], _∷_}
 use mathlib.Core.Bool.{Bool, true, false, cond}
-use lib.ListN.{length}
+use lib.ListN.{length, getD, replicate}
+use lib.Seq.{sets}
 use Rattle.format.specs.Number.{Order}
 use Rattle.format.specs.Grammar.{Sect, also, unless, need, seq, next, done, within, times, readTimes, judgeTimes, between, tag}
-use Rattle.format.specs.Edition.{Edition, codeWidth, opening, closing, n-variable-types, n-data, n-stata-dta}
+use Rattle.format.specs.Edition.{Edition, codeWidth, opening, closing, n-variable-types, n-stata-dta}
 use Rattle.format.specs.Header.{header}
 use Rattle.format.specs.Variables.{VarType, fileMap, typeCode, types}
+use Rattle.format.specs.Expansion.{expansions}
 use Rattle.format.specs.Data.{Cell, observations, strls}
-use Rattle.format.specs.Labels.{blocks}
-use Rattle.format.specs.Dta.{Parts, gather, positions, fromStrls, fromData, fromExpansions, fromVarLabels, fromSetNames, fromFormats, fromSortList, fromNames, fromTypes, fromMap, sections}
+use Rattle.format.specs.Dta.{Parts, fromData, fromExpansions, fromVarLabels, fromSetNames, fromFormats, fromSortList, fromNames, fromTypes, fromMap, sections}
 use Rattle.format.proofs.Good.{also-left, also-right}
 use Rattle.format.proofs.StepLaws.{stop, on, between-judge, between-read, within-room, Met}
 use Rattle.section.specs.declared.Step.{Step}
@@ -21,22 +22,16 @@ use Rattle.header.specs.declared.Head.{Head}
 use Rattle.header.specs.Heads.{Headed}
 use Rattle.map.specs.Maps.{MapJudged}
 use Rattle.lists.specs.declared.Lists.{Lists}
-use Rattle.lists.specs.Walks.{ListsMet, Listed}
+use Rattle.lists.specs.Walks.{listPlaces, ListsMet, Listed}
 use Rattle.data.specs.Places.{Typed}
 use Rattle.checking.specs.declared.Rest.{Rest}
 use Rattle.checking.specs.declared.Walk.{Walk}
-use Rattle.checking.specs.Walks.{RestMet, Rested, noWalk, WalkMet, Sectioned}
+use Rattle.checking.specs.Walks.{restPlaces, RestMet, Rested, noWalk, WalkMet, Sectioned}
 use Rattle.checking.proofs.PlaceLaws.{blocks-next, places-all}
-
--- ---- sizes of tags
 
 pub types-tag : (t : Bool) → cond t 16 0 ≡ length (opening t n-variable-types)
 types-tag true = refl
 types-tag false = refl
-
-pub end-tag : (t : Bool) → cond t 12 0 ≡ length (closing t n-stata-dta)
-end-tag true = refl
-end-tag false = refl
 
 -- ---- the types
 
@@ -91,7 +86,7 @@ module _ (e : Edition) (o : Order) (f : List ℕ) where
   head-n = refl
 
   refuse : (c : ℕ) → (c ≡ 0 → ⊥) → c ≡ S .judge f 0 → Sectioned e o f (noWalk c)
-  refuse c z h = record { code = h; met = λ y. absurd (z y) }
+  refuse c z h = record { code = h; zeros = λ y. refl; met = λ y. absurd (z y) }
 
   at-header : S .judge f 0 ≡ seq (header e o) (λ h. fromMap e o (done 13) (h .0) (h .1 .0)) .judge f 0
   unfolding sections
@@ -119,15 +114,22 @@ module _ (e : Edition) (o : Order) (f : List ℕ) where
           unfolding sections fromMap fromTypes
           types-said = rw (M o .ends zm, H .ends zh)
 
-          module _ {l : Lists} (L' : Listed e o (h .k) f (m .at) l) where
-            L : Listed e o K f (m .at) l
-            L = subst (λ (x : ℕ). Listed e o x f (m .at) l) (H .count zh) L'
+          -- the positions so far, and those of the lists
+          abbrev first-places : List ℕ
+          first-places = sets (replicate 14 0) 1 (h .at ∷ m .at ∷ [])
+
+          abbrev P : ℕ → ℕ
+          P i = getD (listPlaces e o K f (m .at)) i 0
+
+          module _ {u : List ℕ} {l : Lists} (L' : Listed e o (h .k) f (m .at) u l) where
+            L : Listed e o K f (m .at) u l
+            L = subst (λ (x : ℕ). Listed e o x f (m .at) u l) (H .count zh) L'
 
             pub lists-refused : (l .code ≡ 0 → ⊥) → Sectioned e o f (noWalk (l .code))
             lists-refused z = refuse (l .code) z (L .refused z N ∙ sym at-lists)
 
             module _ (zl : l .code ≡ 0) where
-              at-rest : S .judge f 0 ≡ fromExpansions e o (done 13) N (types (e .tagged) o K .read f (m .at)) .judge f (l .extras)
+              at-rest : S .judge f 0 ≡ fromExpansions e o (done 13) N (types (e .tagged) o K .read f (m .at)) .judge f (l .at)
               at-rest = at-lists ∙ L .met zl .decides N
 
               module _ (q : ℕ) (g : q ≡ m .at + length (opening (e .tagged) n-variable-types)) where
@@ -138,65 +140,67 @@ module _ (e : Edition) (o : Order) (f : List ℕ) where
                 pub lists-room : q ≤ length f
                 lists-room = omega (arith, lists-typed .inside)
 
-                module _ {r : Rest} (R' : Rested e o (h .n) (readTimes (typeCode (e .tagged) o) (h .k) f q) f (l .extras) r) where
-                  R : Rested e o N (types (e .tagged) o K .read f (m .at)) f (l .extras) r
+                module _ {r : Rest} (R' : Rested e o (h .n) (readTimes (typeCode (e .tagged) o) (h .k) f q) f (l .at) (l .places) r) where
+                  R : Rested e o N (types (e .tagged) o K .read f (m .at)) f (l .at) (l .places) r
                   R =
-                      subst (λ (x : List VarType). Rested e o N x f (l .extras) r)
+                      subst (λ (x : List VarType). Rested e o N x f (l .at) (l .places) r)
                       (types-read (e .tagged) o (h .k) f (m .at) q g ∙ ap (λ (x : ℕ). types (e .tagged) o x .read f (m .at)) (H .count zh))
-                      (subst (λ (x : ℕ). Rested e o x (readTimes (typeCode (e .tagged) o) (h .k) f q) f (l .extras) r) (H .rows zh) R')
+                      (subst (λ (x : ℕ). Rested e o x (readTimes (typeCode (e .tagged) o) (h .k) f q) f (l .at) (l .places) r) (H .rows zh) R')
 
                   pub rest-refused : (r .code ≡ 0 → ⊥) → Sectioned e o f (noWalk (r .code))
                   rest-refused z = refuse (r .code) z (R .code ∙ sym at-rest)
 
                   module _ (zr : r .code ≡ 0) where
-                    -- what the data says
-                    cells-said : observations (e .tagged) o (e .vWidth) (e .oWidth) (types (e .tagged) o K .read f (m .at)) N .read f (r .rows)
-                        ≡ said .1 .1 .1 .1 .1 .1 .1 .1 .1 .0
-                    unfolding sections fromMap fromTypes fromNames fromSortList fromFormats fromSetNames fromVarLabels fromExpansions fromData
-                    cells-said =
-                        let a = L .met zl in
-                        rw (R .met zr .expansions-end, a .labels-end, a .sets-end, a .formats-end, a .sort-ends, a .names-end, a .types-end, M o .ends zm, H .ends zh)
+                    -- the positions of the rest
+                    abbrev Q : ℕ → ℕ
+                    Q i = getD (restPlaces e o N (types (e .tagged) o K .read f (m .at)) f (l .at)) i 0
 
-                    met : Met e o f said (h .at) (m .at) (l .names) (l .sort) (l .formats) (l .sets) (l .labels) (l .extras) (r .rows) (r .longs) (r .blocks)
-                    unfolding sections
+                    -- what the data says
+                    cells-said : observations (e .tagged) o (e .vWidth) (e .oWidth) (types (e .tagged) o K .read f (m .at)) N .read f (Q 0)
+                        ≡ said .1 .1 .1 .1 .1 .1 .1 .1 .1 .0
+                    unfolding listPlaces restPlaces sections fromMap fromTypes fromNames fromSortList fromFormats fromSetNames fromVarLabels fromExpansions fromData
+                    cells-said = rw (L .met zl .ends, M o .ends zm, H .ends zh)
+
+                    met : Met e o f said (h .at) (m .at) (P 0) (P 1) (P 2) (P 3) (P 4) (P 5) (Q 0) (Q 1) (Q 2)
+                    unfolding listPlaces restPlaces sections
                     met =
-                        let a = L .met zl in
-                        let b = R .met zr in
                         record {
                           header-ends = H .ends zh;
                           map-ends = M o .ends zm;
-                          types-end = a .types-end;
-                          names-end = a .names-end;
-                          sort-ends = a .sort-ends;
-                          formats-end = a .formats-end;
-                          sets-end = a .sets-end;
-                          labels-end = a .labels-end;
-                          expansions-end = b .expansions-end;
-                          data-ends = b .data-ends ∙ ap (λ (x : List VarType). next (observations (e .tagged) o (e .vWidth) (e .oWidth) x N) f (r .rows)) types-said;
-                          strls-end = b .strls-end ∙ ap (λ (x : List (List Cell)). next (strls (e .tagged) o (e .recordWidth) x) f (r .longs)) cells-said;
+                          types-end = refl;
+                          names-end = refl;
+                          sort-ends = refl;
+                          formats-end = refl;
+                          sets-end = refl;
+                          labels-end = refl;
+                          expansions-end = ap (λ (x : ℕ). next (expansions (e .tagged) o) f x) (L .met zl .ends);
+                          data-ends = ap (λ (x : List VarType). next (observations (e .tagged) o (e .vWidth) (e .oWidth) x N) f (Q 0)) types-said;
+                          strls-end = ap (λ (x : List (List Cell)). next (strls (e .tagged) o (e .recordWidth) x) f (Q 1)) cells-said;
                         }
 
-                    -- the file is at least as long as its last tag
-                    pub end-room : length (closing (e .tagged) n-stata-dta) ≤ length f
-                    end-room = omega (arith, R .met zr .blocks-end, blocks-next e o f (r .blocks))
+                    -- all fourteen
+                    filled : u ≡ first-places → r .places ≡ 0 ∷ h .at ∷ m .at ∷ P 0 ∷ P 1 ∷ P 2 ∷ P 3 ∷ P 4 ∷ P 5 ∷ Q 0 ∷ Q 1 ∷ Q 2 ∷ Q 3 ∷ length f ∷ []
+                    unfolding listPlaces restPlaces
+                    filled y =
+                        R .met zr .places
+                        ∙ ap (λ (x : List ℕ). sets x 9 (restPlaces e o N (types (e .tagged) o K .read f (m .at)) f (l .at)))
+                        (L .met zl .places ∙ ap (λ (x : List ℕ). sets x 3 (listPlaces e o K f (m .at))) y)
 
-                    pub sections-met : (c : ℕ) → c + length (closing (e .tagged) n-stata-dta) ≡ length f
-                        → Sectioned e o f (record {
-                          code = 0;
-                          k = h .k;
-                          n = h .n;
-                          map = h .at;
-                          places = 0 ∷ h .at ∷ m .at ∷ l .names ∷ l .sort ∷ l .formats ∷ l .sets ∷ l .labels ∷ l .extras ∷ r .rows ∷ r .longs ∷ r .blocks ∷ c ∷ length f ∷ [];
-                        })
-                    sections-met c y =
+                    last : Q 3 + length (closing (e .tagged) n-stata-dta) ≡ length f
+                    unfolding restPlaces
+                    last = omega (arith, R .met zr .blocks-end, blocks-next e o f (Q 2))
+
+                    pub sections-met : u ≡ first-places → Sectioned e o f (record { code = 0; k = h .k; n = h .n; map = h .at; places = r .places })
+                    sections-met y =
                         record {
                           code = sym zr ∙ R .code ∙ sym at-rest;
+                          zeros = λ z. absurd (z refl);
                           met = λ z.
                               record {
                                 variables = H .count zh ∙ head-k;
                                 rows = H .rows zh ∙ head-n;
                                 map-ends = H .ends zh;
                                 map-inside = subst (λ (x : ℕ). x ≤ length f) (M o .ends zm) (M o .inside);
-                                places = places-all e o f (h .at) (m .at) (l .names) (l .sort) (l .formats) (l .sets) (l .labels) (l .extras) (r .rows) (r .longs) (r .blocks) met c (length f) (R .met zr .blocks-end) y;
+                                places = filled y ∙ places-all e o f (h .at) (m .at) (P 0) (P 1) (P 2) (P 3) (P 4) (P 5) (Q 0) (Q 1) (Q 2) met (Q 3) (length f) (R .met zr .blocks-end) last;
                               };
                         }

@@ -30,13 +30,10 @@ pub struct Checked {
     pub layout: Layout,
 }
 
-// The answer for the sections from the expansion blocks on: the first refusal; where it is 0, where data, long strings and label
-// blocks start.
+// The answer for the sections from the expansion blocks on: the first refusal; where it is 0, the positions.
 pub struct Rest {
     pub code: u8,
-    pub rows: usize,
-    pub longs: usize,
-    pub blocks: usize,
+    pub places: [u64; 14],
 }
 
 // The answer for all sections: the first refusal; where it is 0, K, N, where the map starts, and the fourteen positions.
@@ -60,9 +57,7 @@ fn no_rest(code: u8) -> Rest
 {
     Rest {
         code,
-        rows: 0,
-        longs: 0,
-        blocks: 0,
+        places: [0u64; 14],
     }
 }
 
@@ -78,7 +73,8 @@ fn no_walk(code: u8) -> Walk
     }
 }
 
-// Expansion blocks, data, long strings and label blocks, to the end of the file; the type list of the `k` variables is at `types`.
+// Expansion blocks, data, long strings and label blocks, to the end of the file; the type list of the `k` variables is at `types`. Stores
+// the positions 9 to 13 in `places`.
 fn later_sections(
     f: &[u8],
     p: usize,
@@ -87,18 +83,21 @@ fn later_sections(
     k: usize,
     n: usize,
     msf: bool,
+    mut places: [u64; 14],
 ) -> Rest
     requires { ⌜ (p ≤ length (now f)) × (n ≤ 2147483647) × (Typed (e .tagged) (orderBy msf) (now f) types k) × (Narrow e) × (Wide e) ⌝ }
-    ensures { λ r. ⌜ Rested (numbersOf e) (orderBy msf) n (readTimes (typeCode (e .tagged) (orderBy msf)) k (now (f .entry)) types) (now (f .entry)) p r ⌝ }
+    ensures { λ r. ⌜ Rested (numbersOf e) (orderBy msf) n (readTimes (typeCode (e .tagged) (orderBy msf)) k (now (f .entry)) types) (now (f .entry)) p places r ⌝ }
 {
     let x = expansion::expansion_list(f, p, e.tagged, msf);
     if x.code != 0 {
         return no_rest(x.code);
     }
+    places[9] = x.at as u64;
     let d = data::data_list(f, x.at, types, k, n, e.tagged, msf);
     if d.code != 0 {
         return no_rest(d.code);
     }
+    places[10] = d.at as u64;
     let g = Frame {
         types,
         k,
@@ -114,16 +113,14 @@ fn later_sections(
     if s.code != 0 {
         return no_rest(s.code);
     }
+    places[11] = s.at as u64;
     let b = labels::label_list(f, s.at, e.tagged, e.name_width, msf);
     if b.code != 0 {
         return no_rest(b.code);
     }
-    Rest {
-        code: 0,
-        rows: x.at,
-        longs: d.at,
-        blocks: s.at,
-    }
+    places[12] = (f.len() - tag_size(e.tagged, 12)) as u64;
+    places[13] = f.len() as u64;
+    Rest { code: 0, places }
 }
 
 // All sections of a file of the edition `e`, which it begins as.
@@ -131,37 +128,28 @@ fn sections(f: &[u8], e: Edition, msf: bool) -> Walk
     requires { ⌜ (Begun (now f) e) × (Narrow e) × (Wide e) ⌝ }
     ensures { λ r. ⌜ Sectioned (numbersOf e) (orderBy msf) (now (f .entry)) r ⌝ }
 {
+    let mut places = [0u64; 14];
     let h = header::header(f, e, msf);
     if h.code != 0 {
         return no_walk(h.code);
     }
+    places[1] = h.at as u64;
     let m = map::map_list(f, h.at, e.tagged);
     if m.code != 0 {
         return no_walk(m.code);
     }
-    let l = lists::list_parts(f, m.at, e, h.k, msf);
+    places[2] = m.at as u64;
+    let l = lists::list_parts(f, m.at, e, h.k, msf, places);
     if l.code != 0 {
         return no_walk(l.code);
     }
     let types = m.at + tag_size(e.tagged, 16);
-    let r = later_sections(f, l.extras, e, types, h.k, h.n, msf);
+    let places = l.places;
+    let r = later_sections(f, l.at, e, types, h.k, h.n, msf, places);
     if r.code != 0 {
         return no_walk(r.code);
     }
-    let mut places = [0u64; 14];
-    places[1] = h.at as u64;
-    places[2] = m.at as u64;
-    places[3] = l.names as u64;
-    places[4] = l.sort as u64;
-    places[5] = l.formats as u64;
-    places[6] = l.sets as u64;
-    places[7] = l.labels as u64;
-    places[8] = l.extras as u64;
-    places[9] = r.rows as u64;
-    places[10] = r.longs as u64;
-    places[11] = r.blocks as u64;
-    places[12] = (f.len() - tag_size(e.tagged, 12)) as u64;
-    places[13] = f.len() as u64;
+    let places = r.places;
     Walk {
         code: 0,
         k: h.k,

@@ -13,5 +13,5 @@ pub cell-case : {l : List ℕ} {c k : Cell} → c ≡ k → l ≡ cellNumbers (s
 cell-case e h = h ∙ ap (λ (y : Cell). cellNumbers (says y)) (sym e)
 
 -- the answer x is k
-pub answer-case : {l : List ℕ} {x k : Answer} → x ≡ k → ((lent : List ℕ) → l ≡ numbersOf (answerBy lent k)) → (lent : List ℕ) → l ≡ numbersOf (answerBy lent x)
-answer-case e h = λ lent. h lent ∙ ap (λ (y : Answer). numbersOf (answerBy lent y)) (sym e)
+pub answer-case : {l : List ℕ} {x k : Answer} → x ≡ k → l ≡ numbersOf (answerBy k) → l ≡ numbersOf (answerBy x)
+answer-case e h = h ∙ ap (λ (y : Answer). numbersOf (answerBy y)) (sym e)

@@ -7,13 +7,15 @@ use lib.ListN.{length, drop}
 use lib.Dec.{leb}
 use lib.IntN.{ℤ, pos, negsuc}
 use lib.Ieee.{Float, Format, binary32, binary64, isNan, toBits}
+use Rattle.format.specs.Grammar.{unless}
 use Rattle.format.specs.Variables.{codeOf}
 use Rattle.format.specs.Cells.{Says, whole, single, double, letter, between, outside, words, reference}
 use Rattle.format.specs.Dta.{Layout}
-use Rattle.questions.specs.Ask.{Question, Answer, refused, count, mark, typed, part, column, cell, plain, long, answerOf, among}
+use Rattle.questions.specs.Ask.{Question, Labels, unlabelled, labelled, Answer, refused, count, mark, typed, part, column, labels, cell, plain, long, askCell, answerOf, among, inRange}
 use Rattle.asking.specs.declared.Answer as Told
 use Rattle.asking.specs.Asking.{answerBy}
 use Rattle.coded.specs.declared.Four.{Four}
+use Rattle.coded.specs.declared.Run.{Run}
 
 abbrev pub four : ℕ → ℕ → ℕ → ℕ → List ℕ
 four k a b c = k ∷ a ∷ b ∷ c ∷ []
@@ -42,6 +44,11 @@ cellNumbers outside = four 11 0 0 0
 cellNumbers (words p n) = four 12 p n 0
 cellNumbers (reference v o) = four 13 v o 0
 
+-- a label table: whether there is one, its place and length
+abbrev pub labelNumbers : Labels → List ℕ
+labelNumbers unlabelled = four 16 0 0 0
+labelNumbers (labelled p n) = four 16 1 p n
+
 -- an answer. A type is its code in a tagged edition
 abbrev pub numbersOf : Answer → List ℕ
 numbersOf (refused c) = four 0 c 0 0
@@ -53,10 +60,11 @@ numbersOf (plain t) = four 5 0 0 0
 numbersOf (cell s) = cellNumbers s
 numbersOf (long k p n) = four 14 k p n
 numbersOf (column t p n) = four 15 (codeOf true t) p n
+numbersOf (labels s) = labelNumbers s
 
--- r is the numbers of the answer x, whatever text is lent
+-- r is the numbers of the answer x
 abbrev pub NumbersOf : Told.Answer → Four → Type 0
-NumbersOf x r = (lent : List ℕ) → fourBy r ≡ numbersOf (answerBy lent x)
+NumbersOf x r = fourBy r ≡ numbersOf (answerBy x)
 
 -- ---- answers one after another
 
@@ -74,7 +82,12 @@ following i k = cond (among i k) (suc k - i) 0
 abbrev pub least : ℕ → ℕ → ℕ
 least a b = cond (leb a b) a b
 
--- w is the slice d with the answers to q 0, q 1, .. laid over its beginning, r of them: as many as it has room for, and at most n
-pub record Tells (f : List ℕ) (l : Layout) (q : ℕ → Question) (n : ℕ) (d w : List ℕ) (r : ℕ) : Type 0 where
-  pub many : r ≡ least (length d / 4) n
-  pub out : w ≡ told f l q r ++ drop (r * 4) d
+-- the answer of a run that begins with the cell of variable i and observation j, into a slice of x numbers: 16 where there is no such cell; else how many
+-- answers are stored, as many as there is room for, and at most n
+abbrev pub runOf : Layout → ℕ → ℕ → ℕ → ℕ → Run
+runOf l i j n x = let there = inRange l (askCell i j) in record { code = unless there 16; count = cond there (least (x / 4) n) 0 }
+
+-- r is that answer, and w is what the slice then holds, which was d: the answers to q 0, q 1, .. and then what stood there
+pub record Tells (f : List ℕ) (l : Layout) (i j : ℕ) (q : ℕ → Question) (n : ℕ) (d w : List ℕ) (r : Run) : Type 0 where
+  pub answer : r ≡ runOf l i j n (length d)
+  pub out : w ≡ told f l q (r .count) ++ drop (r .count * 4) d

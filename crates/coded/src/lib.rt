@@ -21,6 +21,12 @@ pub struct Four {
     pub c: u64,
 }
 
+// The answer of a run of cells: 16 where the cell that it begins with is not there, else 0; and how many answers were stored.
+pub struct Run {
+    pub code: u8,
+    pub count: usize,
+}
+
 fn numbers(kind: u64, a: u64, b: u64) -> Four
     ensures { λ r. ⌜ fourBy r ≡ four kind a b 0 ⌝ }
 {

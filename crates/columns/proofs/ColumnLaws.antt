@@ -22,8 +22,8 @@ use Rattle.data.specs.Places.{fieldAt}
 use Rattle.questions.specs.Readings.{Try, none, got, bind}
 use Rattle.questions.specs.Ask.{Answer, column, orRefused, among, typeIn, typesIn, layoutTypes, columnIn, startOf}
 use Rattle.reading.specs.declared.Read.{Read}
-use Rattle.reading.specs.Reads.{tryOf}
-use Rattle.reading.proofs.ReadLaws.{number-got, read-got}
+use Rattle.reading.specs.Reads.{readBy}
+use Rattle.reading.proofs.ReadLaws.{number-got}
 use Rattle.columns.specs.declared.Column.{Column}
 use Rattle.columns.specs.Columns.{capped, noColumn, columnBy, widths, widthsIn}
 
@@ -296,22 +296,15 @@ module _ (e : Edition) (o : Order) (f : List ℕ) (l : Layout) (i : ℕ) (p : �
       (sym (ap (λ (r : Try Answer). columnBy (orRefused r)) (by-types (got t) T)))
 
   pub column-got : e .vWidth + e .oWidth ≡ 8 → i - 1 < l .variables → (s : ℕ) → widthsIn (e .tagged) o f (l .variables) p ≡ got s
-      → (x : Field) → x ≡ fieldAt (e .tagged) o f p (i - 1) → (b : Read) → tryOf b ≡ widthsIn (e .tagged) o f (i - 1) p
+      → (x : Field) → x ≡ fieldAt (e .tagged) o f p (i - 1) → (b : Read) → b ≡ readBy (widthsIn (e .tagged) o f (i - 1) p)
       → record { code = 0; kind = x .kind; width = x .width; offset = b .value; row = s } ≡ columnBy (orRefused (columnIn e o f l i))
   unfolding widthsIn
   column-got w h s k x X b B =
       let g = types-got types s k in
       let t = g .0 in
-      let a : tryOf b ≡ got (capped (widths (take (i - 1) t))) = B ∙ rw (types-take (e .tagged) o f (l .variables) p t (g .1) (i - 1) (omega arith)) in
+      let a : b ≡ readBy (got (capped (widths (take (i - 1) t)))) = B ∙ rw (types-take (e .tagged) o f (l .variables) p t (g .1) (i - 1) (omega arith)) in
       let y : x ≡ fieldBy (getD t (i - 1) byteType) = X ∙ types-at (e .tagged) o f (l .variables) p t (g .1) (i - 1) h in
-      column-by w t (g .1) s (g .2) x y (b .value) (read-is b (capped (widths (take (i - 1) t))) a)
-    where
-      read-is : (b : Read) (n : ℕ) → tryOf b ≡ got n → b .value ≡ n
-      read-is b n h = go (b .there) refl
-        where
-          go : (c : Bool) → b .there ≡ c → b .value ≡ n
-          go true e = cc (sym (read-got b (got n) h e))
-          go false e = let z : tryOf b ≡ none = rw e in absurd (false≢true (cc (sym z ∙ h)))
+      column-by w t (g .1) s (g .2) x y (b .value) (ap (λ (y : Read). y .value) a)
 
 -- ---- for the code
 

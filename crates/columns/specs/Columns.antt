@@ -9,7 +9,7 @@ use Rattle.format.specs.Variables.{VarType}
 use Rattle.codes.specs.declared.Kind.the-variants.{Unknown}
 use Rattle.codes.specs.Fields.{fieldBy}
 use Rattle.questions.specs.Readings.{Try, bind, got}
-use Rattle.questions.specs.Ask.{Answer, refused, count, mark, typed, part, column, cell, plain, long, typesIn}
+use Rattle.questions.specs.Ask.{Answer, refused, count, mark, typed, part, column, labels, cell, plain, long, typesIn}
 use Rattle.columns.specs.declared.Column.{Column}
 
 -- n, or the greatest number of 64 bits where n is greater: only a file that no machine holds has a row that wide
@@ -28,6 +28,7 @@ columnBy (mark b) = noColumn 17
 columnBy (typed t) = noColumn 17
 columnBy (part p n) = noColumn 17
 columnBy (column t p n) = record { code = 0; kind = fieldBy t .kind; width = fieldBy t .width; offset = capped p; row = capped n }
+columnBy (labels s) = noColumn 17
 columnBy (cell s) = noColumn 17
 columnBy (plain t) = noColumn 17
 columnBy (long k p n) = noColumn 17

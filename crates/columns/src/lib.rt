@@ -7,7 +7,7 @@ ghost use lib.ListN.{length};
 ghost use Rattle.format.specs.Number.{orderBy};
 ghost use Rattle.format.specs.Edition.{codeWidth};
 ghost use Rattle.questions.specs.Ask.{answerOf, askColumn};
-ghost use Rattle.reading.specs.Reads.{tryOf};
+ghost use Rattle.reading.specs.Reads.{readBy};
 ghost use Rattle.checking.specs.Checks.{layoutBy};
 ghost use Rattle.columns.specs.Columns.{capped, noColumn, columnBy, widthsIn};
 
@@ -54,7 +54,7 @@ fn add_capped(a: u64, b: u64) -> u64
 // The widths of the cells of the `n` types at `p`, added up, where all are known.
 fn width_sum(f: &[u8], p: usize, n: usize, tagged: bool, msf: bool) -> Read
     requires { ⌜ p + n * codeWidth tagged ≤ length (now f) ⌝ }
-    ensures { λ r. ⌜ tryOf r ≡ widthsIn tagged (orderBy msf) (now (f .entry)) n p ⌝ }
+    ensures { λ r. ⌜ r ≡ readBy (widthsIn tagged (orderBy msf) (now (f .entry)) n p) ⌝ }
 {
     let mut s: u64 = 0;
     let mut j: usize = 0;

@@ -1,153 +1,55 @@
 -- Which questions are refused, and with which number.
-use mathlib.Core.Path.{_≡_, refl, sym, _∙_, subst}
-use Prim.Native.Nat.{ℕ, zero, suc, _+_, _-_, _*_}
+use mathlib.Core.Path.{_≡_, refl, sym, ap, _∙_, subst}
+use Prim.Native.Nat.{ℕ}
 use native.Mathlib.Omega.{arith}
 use mathlib.Core.List.{List}
-use mathlib.Core.Logic.{inl, inr}
-use mathlib.Core.Bool.{Bool, true, false, cond, _&&_, true≢false}
-use lib.ListN.{length}
-use lib.Dec.{eqb, leb, ltb}
-use lib.IntN.{ℤ}
-use Rattle.format.specs.Number.{Order}
-use Rattle.format.specs.Edition.{Edition, edition, codeWidth, opening, closing, n-variable-types, n-varnames, n-sortlist, n-formats, n-value-label-names, n-variable-labels, n-strls, n-value-labels, n-lbl}
-use Rattle.format.specs.Variables.{nonempty}
-use Rattle.format.specs.Cells.{Says, whole, single, double, letter, between, outside, words, reference, Key, nothing, seeks, keyOf}
-use Rattle.format.specs.Search.{Slot, found, missing, lost, searchAt}
-use Rattle.format.specs.Dta.{Layout, sameList}
-use Rattle.questions.specs.Readings.{Try, none, got, bind, test, room, numberIn, textIn}
-use Rattle.questions.specs.Ask.{Question, askEdition, askOrder, askK, askN, askLabel, askStamp, askType, askName, askFormat, askSet, askVarLabel, askDate, askSort, askColumn, askCell, askLong, askWords, Answer, refused, releaseIn, orderIn, startOf, endOf, fieldPlace, inRange, textPart, countedPart, oldLabelPlace, newLabelPlace, stampGap, typeIn, sortIn, layoutTypes, labelIn, stampIn, cellIn, slotIn, tableIn, blockIn, blocksIn, headSize, soughtIn, setWords, recordsIn, recordHead, longBy, answerIn, orRefused, answerOf}
+use mathlib.Core.Logic.{_⊎_, inl, inr}
+use mathlib.Core.Bool.{Bool, true, false, true≢false}
+use Rattle.format.specs.Dta.{Layout}
+use Rattle.questions.specs.Readings.{Try, none, got}
+use Rattle.questions.specs.Ask.{Question, askEdition, askOrder, askK, askN, askLabel, askStamp, askType, askName, askFormat, askSet, askVarLabel, askDate, askSort, askColumn, askTable, askCell, askLong, askWords, Answer, refused, inRange, orRefused, answerOf}
 use Rattle.questions.proofs.SomeLaws.{Answered}
-use Rattle.demands.specs.Demands.{readFor, AskGiven}
+use Rattle.questions.proofs.EachLaws.{Kinds, Each, each-read}
+use Rattle.asking.specs.declared.Question as Code
+use Rattle.asking.specs.declared.Answer as Told
+use Rattle.asking.specs.declared.Answer.the-variants as A
+use Rattle.asking.specs.Asking.{questionBy, toldBy, answerBy, Asked}
+use Rattle.asking.proofs.AskLaws.{asked-means}
+use Rattle.demands.specs.Logic.{Iff}
+use Rattle.demands.specs.Demands.{readFor, AskGiven, ToldGiven}
 
--- nothing is read, or an answer that is no refusal
-abbrev NoRefusal : Try Answer → Type 0
-NoRefusal none = Unit {0}
-NoRefusal (got a) = Answered a
-
-record Told (t : Try Answer) : Type 0 where
-  told : NoRefusal t
-
-told-bind : {A : Type 0} (t : Try A) (k : A → Try Answer) → ((a : A) → Told (k a)) → Told (bind t k)
-told-bind none k h = record { told = tt }
-told-bind (got a) k h = h a
-
-told-if : (t : Bool) (x y : Try Answer) → Told x → Told y → Told (cond t x y)
-told-if true x y a b = a
-told-if false x y a b = b
-
--- ---- header
-
-text-told : (w : ℕ) (f : List ℕ) (p : ℕ) → Told (textPart w f p)
-text-told w f p = told-bind (textIn w f p) _ λ t. record { told = tt }
-
-counted-told : (o : Order) (w : ℕ) (f : List ℕ) (p : ℕ) → Told (countedPart o w f p)
-counted-told o w f p = told-bind (numberIn o w f p) _ λ n. told-bind (room f (p + w) n) _ λ u. record { told = tt }
-
-label-told : (t : Bool) (e : Edition) (o : Order) (f : List ℕ) → Told (labelIn t e o f)
-label-told true e o f = counted-told o (e .labelLength) f (newLabelPlace e)
-label-told false e o f = text-told (suc (e .labelMax)) f (oldLabelPlace e)
-
-stamp-told : (t : Bool) (e : Edition) (o : Order) (f : List ℕ) → Told (stampIn t e o f)
-stamp-told true e o f =
-    told-bind (numberIn o (e .labelLength) f (newLabelPlace e)) _ λ n. counted-told o 1 f (newLabelPlace e + e .labelLength + n + stampGap)
-stamp-told false e o f = text-told 18 f (oldLabelPlace e + suc (e .labelMax))
-
--- ---- label words
-
-slot-told : (o : Order) (f lent : List ℕ) (p n x : ℕ) (s : Slot) → Told (slotIn o f lent p n x s)
-slot-told o f lent p n x (found m) =
-    told-bind (numberIn o 4 f (p + 8 + m * 4)) _ λ y.
-    told-bind (test (ltb y x)) _ λ u.
-    told-bind (textIn (x - y) f (p + 8 + n * 4 + n * 4 + y)) _ λ t.
-    told-bind (test (ltb (length t) (x - y))) _ λ u. record { told = tt }
-slot-told o f lent p n x missing = record { told = tt }
-slot-told o f lent p n x lost = record { told = tt }
-
-table-told : (o : Order) (f lent : List ℕ) (q : ℤ) (w p : ℕ) → Told (tableIn o f lent q w p)
-table-told o f lent q w p =
-    told-bind (test (leb 8 w)) _ λ u.
-    told-bind (numberIn o 4 f p) _ λ n.
-    told-bind (numberIn o 4 f (p + 4)) _ λ x.
-    told-bind (test (eqb w (8 + (8 * n + x)))) _ λ u.
-    slot-told o f lent p n x (searchAt o f (p + 8 + n * 4) (length f) n q .slot)
-
-module _ (t : Bool) (w : ℕ) (o : Order) (f : List ℕ) (lent : List ℕ) (q : ℤ) (s : List ℕ) (z : ℕ) where
-  blocks-told : (k p : ℕ) → Told (blocksIn t w o f lent q s z k p)
-  blocks-told zero p = record { told = tt }
-  blocks-told (suc k) p =
-      told-if (ltb p z) _ _
-      (told-bind (blockIn t w o f z p) _ λ b.
-      (let a = p + length (opening t n-lbl) + headSize w in
-      told-if (sameList (b .1) s) _ _ (table-told o f lent q (b .0) a) (blocks-told k (a + b .0 + length (closing t n-lbl)))))
-      (record { told = tt })
-
-sought-told : (k : Key) (lent : List ℕ) (r : ℤ → Try Answer) → ((q : ℤ) → Told (r q)) → Told (soughtIn k lent r)
-sought-told nothing lent r h = record { told = tt }
-sought-told (seeks q) lent r h = h q
-
-set-told : (e : Edition) (o : Order) (f : List ℕ) (l : Layout) (i : ℕ) (lent : List ℕ) (q : ℤ) → Told (setWords e o f l i lent q)
-set-told e o f l i lent q =
-    told-bind (textIn (e .nameWidth) f (fieldPlace (e .tagged) l 6 n-value-label-names (e .nameWidth) i)) _ λ s.
-    told-if (nonempty s) _ _
-    (blocks-told (e .tagged) (e .nameWidth) o f lent q s (endOf (e .tagged) l 11 n-value-labels) (suc (length f)) (startOf (e .tagged) l 11 n-value-labels))
-    (record { told = tt })
-
--- ---- long strings
-
-module _ (w : ℕ) (o : Order) (f : List ℕ) (v x : ℕ) (z : ℕ) where
-  records-told : (k p : ℕ) → Told (recordsIn w o f v x z k p)
-  records-told zero p = record { told = tt }
-  records-told (suc k) p =
-      told-bind (test (leb (p + recordHead w) z)) _ λ u.
-      told-bind (numberIn o 4 f (p + 3)) _ λ a.
-      told-bind (numberIn o w f (p + 3 + 4)) _ λ b.
-      told-bind (numberIn o 1 f (p + 3 + 4 + w)) _ λ c.
-      told-bind (numberIn o 4 f (p + 3 + 4 + w + 1)) _ λ n.
-      told-bind (test (leb (p + recordHead w + n) z)) _ λ u.
-      told-if (eqb a v && eqb b x) _ _ (told-bind (room f (p + recordHead w) n) _ λ u. record { told = tt }) (records-told k (p + recordHead w + n))
-
-long-told : (e : Edition) (o : Order) (f : List ℕ) (l : Layout) (s : Says) → Told (longBy e o f l s)
-long-told e o f l (whole z) = record { told = tt }
-long-told e o f l (single x) = record { told = tt }
-long-told e o f l (double x) = record { told = tt }
-long-told e o f l (letter k) = record { told = tt }
-long-told e o f l between = record { told = tt }
-long-told e o f l outside = record { told = tt }
-long-told e o f l (words p n) = record { told = tt }
-long-told e o f l (reference v x) =
-    told-if (eqb v 0 && eqb x 0) _ _ (record { told = tt })
-    (records-told (e .recordWidth) o f v x (endOf (e .tagged) l 10 n-strls) (suc (length f)) (startOf (e .tagged) l 10 n-strls))
-
--- ---- the answer
-
-answer-told : (e : Edition) (o : Order) (f : List ℕ) (l : Layout) (q : Question) → Told (answerIn e o f l q)
-answer-told e o f l askEdition = record { told = tt }
-answer-told e o f l askOrder = record { told = tt }
-answer-told e o f l askK = record { told = tt }
-answer-told e o f l askN = record { told = tt }
-answer-told e o f l askLabel = label-told (e .tagged) e o f
-answer-told e o f l askStamp = stamp-told (e .tagged) e o f
-answer-told e o f l (askType i) =
-    told-bind (typeIn (e .tagged) o f (fieldPlace (e .tagged) l 2 n-variable-types (codeWidth (e .tagged)) i)) _ λ t. record { told = tt }
-answer-told e o f l (askName i) = text-told (e .nameWidth) f (fieldPlace (e .tagged) l 3 n-varnames (e .nameWidth) i)
-answer-told e o f l (askFormat i) = text-told (e .formatWidth) f (fieldPlace (e .tagged) l 5 n-formats (e .formatWidth) i)
-answer-told e o f l (askSet i) = text-told (e .nameWidth) f (fieldPlace (e .tagged) l 6 n-value-label-names (e .nameWidth) i)
-answer-told e o f l (askVarLabel i) = text-told (e .varLabelWidth) f (fieldPlace (e .tagged) l 7 n-variable-labels (e .varLabelWidth) i)
-answer-told e o f l (askDate i) = told-bind (textIn (e .formatWidth) f (fieldPlace (e .tagged) l 5 n-formats (e .formatWidth) i)) _ λ t. record { told = tt }
-answer-told e o f l (askSort i) = told-bind (sortIn o f i (suc (l .variables)) 0 (startOf (e .tagged) l 4 n-sortlist)) _ λ x. record { told = tt }
-answer-told e o f l (askColumn i) = told-bind (layoutTypes e o f l) _ λ t. record { told = tt }
-answer-told e o f l (askCell i j) = told-bind (cellIn e o f l i j) _ λ s. record { told = tt }
-answer-told e o f l (askLong i j) = told-bind (cellIn e o f l i j) _ (long-told e o f l)
-answer-told e o f l (askWords i j t) = told-bind (cellIn e o f l i j) _ λ c. sought-told (keyOf c) t _ (set-told e o f l i t)
+-- no answer of a question's kind is a refusal
+no-refusal : (q : Question) → Kinds Answered q
+no-refusal askEdition = λ n. tt
+no-refusal askOrder = λ n. tt
+no-refusal askK = λ n. tt
+no-refusal askN = λ n. tt
+no-refusal askLabel = λ p n. tt
+no-refusal askStamp = λ p n. tt
+no-refusal (askType i) = λ t. tt
+no-refusal (askName i) = λ p n. tt
+no-refusal (askFormat i) = λ p n. tt
+no-refusal (askSet i) = λ p n. tt
+no-refusal (askVarLabel i) = λ p n. tt
+no-refusal (askDate i) = λ b. tt
+no-refusal (askSort i) = λ n. tt
+no-refusal (askColumn i) = λ t p n. tt
+no-refusal (askTable i) = λ s. tt
+no-refusal (askCell i j) = λ s. tt
+no-refusal (askLong i j) = λ k p n. tt
+no-refusal (askWords i j t) = ((λ p n. tt), tt)
 
 -- what is refused: nothing was read, and the number is 17
-refusal-is : (t : Try Answer) (c : ℕ) → Told t → orRefused t ≡ refused c → (t ≡ none) × (c ≡ 17)
+refusal-is : (t : Try Answer) (c : ℕ) → Each Answered t → orRefused t ≡ refused c → (t ≡ none) × (c ≡ 17)
 refusal-is none c h q = (refl, cc (sym q))
-refusal-is (got a) c h q = absurd (subst Answered q (h .told))
+refusal-is (got a) c h q = absurd (subst Answered q (h .each))
+
+read-some : (t : Try Answer) (a : Answer) → Each Answered t → t ≡ got a → (c : ℕ) → a ≡ refused c → ⊥
+read-some t a h e c q = subst Answered q (subst (Each Answered) e h .each)
 
 module _ (f : List ℕ) (l : Layout) (q : Question) where
-  read-told : Told (readFor f l q)
-  read-told = told-bind (releaseIn (l .release)) _ λ r. told-bind (orderIn (l .order)) _ λ o. answer-told (edition r) o f l q
+  read-told : Each Answered (readFor f l q)
+  read-told = each-read Answered f l q (no-refusal q)
 
   in-answer : inRange l q ≡ true → answerOf f l q ≡ orRefused (readFor f l q)
   unfolding answerOf
@@ -157,27 +59,56 @@ module _ (f : List ℕ) (l : Layout) (q : Question) where
   unfolding answerOf
   out-answer h = rw h
 
-  pub ask-given : AskGiven f l q
-  ask-given = go (inRange l q) refl
+  in-none : inRange l q ≡ true → (c : ℕ) → answerOf f l q ≡ refused c → (readFor f l q ≡ none) × (c ≡ 17)
+  in-none e c h = refusal-is (readFor f l q) c read-told (sym (in-answer e) ∙ h)
+
+  out-16 : inRange l q ≡ false → (c : ℕ) → answerOf f l q ≡ refused c → c ≡ 16
+  out-16 e c h = cc (sym h ∙ out-answer e)
+
+  -- each number for its reason
+  given-16 : Iff (answerOf f l q ≡ refused 16) (inRange l q ≡ false)
+  given-16 = (λ h. go (inRange l q) refl h, out-answer)
     where
-      in-none : inRange l q ≡ true → (c : ℕ) → answerOf f l q ≡ refused c → (readFor f l q ≡ none) × (c ≡ 17)
-      in-none e c h = refusal-is (readFor f l q) c read-told (sym (in-answer e) ∙ h)
+      go : (t : Bool) → inRange l q ≡ t → answerOf f l q ≡ refused 16 → inRange l q ≡ false
+      go false e h = e
+      go true e h = absurd (omega (arith, in-none e 16 h .1))
 
-      out-16 : inRange l q ≡ false → (c : ℕ) → answerOf f l q ≡ refused c → c ≡ 16
-      out-16 e c h = cc (sym h ∙ out-answer e)
+  given-17 : Iff (answerOf f l q ≡ refused 17) ((inRange l q ≡ true) × (readFor f l q ≡ none))
+  given-17 = (λ h. go (inRange l q) refl h, λ h. in-answer (h .0) ∙ rw (h .1))
+    where
+      go : (t : Bool) → inRange l q ≡ t → answerOf f l q ≡ refused 17 → (inRange l q ≡ true) × (readFor f l q ≡ none)
+      go true e h = (e, in-none e 17 h .0)
+      go false e h = absurd (omega (arith, out-16 e 17 h))
 
-      go : (t : Bool) → inRange l q ≡ t → AskGiven f l q
-      go true e =
-          record {
-            out-of-range = (λ h. absurd (omega (arith, in-none e 16 h .1)), out-answer);
-            unread = (λ h. (e, in-none e 17 h .0), λ h. in-answer e ∙ rw (h .1));
-            number = λ c h. inr (in-none e c h .1);
-            answer = λ a h k. in-answer e ∙ rw k;
-          }
-      go false e =
-          record {
-            out-of-range = (λ h. e, out-answer);
-            unread = (λ h. absurd (omega (arith, out-16 e 17 h)), λ h. absurd (true≢false (sym (h .0) ∙ e)));
-            number = λ c h. inl (out-16 e c h);
-            answer = λ a h k. absurd (true≢false (sym h ∙ e));
-          }
+  no-other : (c : ℕ) → answerOf f l q ≡ refused c → (c ≡ 16) ⊎ (c ≡ 17)
+  no-other c h = go (inRange l q) refl
+    where
+      go : (t : Bool) → inRange l q ≡ t → (c ≡ 16) ⊎ (c ≡ 17)
+      go true e = inr (in-none e c h .1)
+      go false e = inl (out-16 e c h)
+
+  is-read : (a : Answer) → inRange l q ≡ true → readFor f l q ≡ got a → answerOf f l q ≡ a
+  is-read a h k = in-answer h ∙ rw k
+
+pub told-given : {R : Type 0} (by : Answer → R) (f : List ℕ) (l : Layout) (q : Question) (r : R) → r ≡ by (answerOf f l q) → ToldGiven by f l q r
+told-given by f l q r h =
+    record {
+      out-of-range = λ e. h ∙ ap by (out-answer f l q e);
+      unread = λ e n. h ∙ ap by (given-17 f l q .1 (e, n));
+      answer = λ a e k. (h ∙ ap by (is-read f l q a e k), read-some (readFor f l q) a (read-told f l q) k);
+    }
+
+pub ask-given : (f : List ℕ) (l : Layout) (q : Code.Question) (r : Told.Answer) → Asked f l q r → AskGiven f l q r
+ask-given f l q r h =
+    record {
+      out-of-range = (λ e. given-16 f l s .0 (back 16 e), λ e. h ∙ ap toldBy (given-16 f l s .1 e));
+      unread = (λ e. given-17 f l s .0 (back 17 e), λ e. h ∙ ap toldBy (given-17 f l s .1 e));
+      number = λ c e. no-other f l s c (back c e);
+      answer = λ a e k. h ∙ ap toldBy (is-read f l s a e k);
+    }
+  where
+    s : Question
+    s = questionBy q
+
+    back : (c : ℕ) → r ≡ A.Refused c → answerOf f l s ≡ refused c
+    back c e = sym (asked-means f l q) ∙ ap answerBy (sym h ∙ e)

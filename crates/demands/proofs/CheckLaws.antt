@@ -1,95 +1,44 @@
 -- The verdict's numbers, one by one.
-use mathlib.Core.Path.{_≡_, refl, sym, _∙_}
-use Prim.Native.Nat.{ℕ, _≤_, _<_}
-use native.Mathlib.Omega.{arith}
+use mathlib.Core.Path.{_≡_, sym, _∙_}
+use Prim.Native.Nat.{ℕ}
 use mathlib.Core.List.{List}
-use mathlib.Core.Logic.{_⊎_, inl, inr}
-use mathlib.Core.Bool.{Bool, true, false, _&&_}
-use lib.ListN.{length}
-use lib.Dec.{eqb, leb}
-use borrow.Author.Tests.{eqb-true, leb-true, leb-false, le-leb, lt-leb, ne-eqb}
-use Rattle.format.specs.Dta.{file, known, editionOf, orderOf, verdict, noLayout, layoutOf, lengthMax}
-use Rattle.format.proofs.Good.{and-left, and-right}
-use Rattle.format.proofs.AreaLaws.{or-cases}
+use Rattle.format.specs.Dta.{verdict}
 use Rattle.checking.specs.declared.Checked.{Checked}
 use Rattle.checking.specs.Checks.{Checks}
+use Rattle.demands.specs.Logic.{Iff}
 use Rattle.demands.specs.Demands.{CheckGiven}
-use Rattle.demands.proofs.NumberLaws.{listed, known-listed}
+use Rattle.demands.proofs.ReasonLaws.{type-unknown, sort-broken}
+use Rattle.demands.proofs.EndLaws.{bytes-left}
+use Rattle.demands.proofs.MapLaws.{map-wrong}
+use Rattle.demands.proofs.TableLaws.{table-broken}
+use Rattle.demands.proofs.LinkLaws.{link-broken}
+use Rattle.demands.proofs.ExpansionLaws.{length-of-none}
+use Rattle.demands.proofs.TextLaws.{text-broken}
+use Rattle.demands.proofs.HeaderLaws.{header-broken}
+use Rattle.demands.proofs.ComesLaws.{cut-short, tag-differs}
+use Rattle.demands.proofs.VerdictLaws.{verdict-number, long-verdict, unknown-verdict, first-verdict, is-long, is-unknown, no-layout}
 
--- what is listed
-list-of : (c : ℕ) → listed c ≡ true → (c ≡ 0) ⊎ ((3 ≤ c) × (c ≤ 13))
-list-of c h = go (or-cases (eqb c 0) (leb 3 c && leb c 13) h)
-  where
-    go : (eqb c 0 ≡ true) ⊎ ((leb 3 c && leb c 13) ≡ true) → (c ≡ 0) ⊎ ((3 ≤ c) × (c ≤ 13))
-    go (inl x) = inl (eqb-true c 0 x)
-    go (inr x) = inr (leb-true 3 c (and-left (leb 3 c) (leb c 13) x), leb-true c 13 (and-right (leb 3 c) (leb c 13) x))
+-- the answer's number is the verdict
+of-code {ℓ} : (f : List ℕ) (r : Checked) → Checks f r → (c : ℕ) {X : Type ℓ} → Iff (verdict f ≡ c) X → Iff (r .code ≡ c) X
+of-code f r h c i = (λ q. i .0 (sym (h .code) ∙ q), λ x. h .code ∙ i .1 x)
 
-module _ (f : List ℕ) where
-  long-verdict : lengthMax < length f → verdict f ≡ 1
-  unfolding verdict
-  long-verdict b = rw (lt-leb (length f) lengthMax b)
-
-  unknown-verdict : length f ≤ lengthMax → known f ≡ false → verdict f ≡ 2
-  unfolding verdict
-  unknown-verdict b k = rw (le-leb (length f) lengthMax b, k)
-
-  first-verdict : length f ≤ lengthMax → known f ≡ true → verdict f ≡ file (editionOf f) (orderOf f) .judge f 0
-  unfolding verdict
-  first-verdict b k = rw (le-leb (length f) lengthMax b, k)
-
-  -- the three cases of a verdict
-  data Case : Type 0 where
-    long : lengthMax < length f → verdict f ≡ 1 → Case
-    unknown : length f ≤ lengthMax → known f ≡ false → verdict f ≡ 2 → Case
-    first : length f ≤ lengthMax → known f ≡ true → (verdict f ≡ 0) ⊎ ((3 ≤ verdict f) × (verdict f ≤ 13)) → Case
-
-  case : Case
-  case = go (leb (length f) lengthMax) refl (known f) refl
-    where
-      go : (a : Bool) → leb (length f) lengthMax ≡ a → (b : Bool) → known f ≡ b → Case
-      go false p b q = let l = leb-false (length f) lengthMax p in long l (long-verdict l)
-      go true p false q = let l = leb-true (length f) lengthMax p in unknown l q (unknown-verdict l q)
-      go true p true q =
-          let l = leb-true (length f) lengthMax p in
-          first l q (rw (first-verdict l q) (list-of (file (editionOf f) (orderOf f) .judge f 0) (known-listed f q)))
-
-  pub verdict-number : verdict f ≤ 13
-  verdict-number = go case
-    where
-      go : Case → verdict f ≤ 13
-      go (long b q) = omega (arith, q)
-      go (unknown b k q) = omega (arith, q)
-      go (first b k (inl q)) = omega (arith, q)
-      go (first b k (inr q)) = q .1
-
-  is-long : verdict f ≡ 1 → lengthMax < length f
-  is-long h = go case
-    where
-      go : Case → lengthMax < length f
-      go (long b q) = b
-      go (unknown b k q) = absurd (omega (arith, h, q))
-      go (first b k (inl q)) = absurd (omega (arith, h, q))
-      go (first b k (inr q)) = absurd (omega (arith, h, q .0))
-
-  is-unknown : verdict f ≡ 2 → (length f ≤ lengthMax) × (known f ≡ false)
-  is-unknown h = go case
-    where
-      go : Case → (length f ≤ lengthMax) × (known f ≡ false)
-      go (long b q) = absurd (omega (arith, h, q))
-      go (unknown b k q) = (b, k)
-      go (first b k (inl q)) = absurd (omega (arith, h, q))
-      go (first b k (inr q)) = absurd (omega (arith, h, q .0))
-
-  no-layout : (verdict f ≡ 0 → ⊥) → layoutOf f ≡ noLayout
-  unfolding layoutOf
-  no-layout h = rw (ne-eqb (verdict f) 0 h)
-
-  pub check-given : (r : Checked) → Checks f r → CheckGiven f r
-  check-given r h =
-      record {
-        number = rw (h .code) verdict-number;
-        too-long = (λ q. is-long (sym (h .code) ∙ q), λ b. h .code ∙ long-verdict b);
-        unknown = (λ q. is-unknown (sym (h .code) ∙ q), λ b. h .code ∙ unknown-verdict (b .0) (b .1));
-        first = λ b k. h .code ∙ first-verdict b k;
-        bare = λ n. h .layout ∙ no-layout (λ q. n (h .code ∙ q));
-      }
+pub check-given : (f : List ℕ) (r : Checked) → Checks f r → CheckGiven f r
+check-given f r h =
+    record {
+      number = rw (h .code) (verdict-number f);
+      too-long = (λ q. is-long f (sym (h .code) ∙ q), λ b. h .code ∙ long-verdict f b);
+      unknown = (λ q. is-unknown f (sym (h .code) ∙ q), λ b. h .code ∙ unknown-verdict f (b .0) (b .1));
+      first = λ b k. h .code ∙ first-verdict f b k;
+      cut-short = of-code f r h 3 (cut-short f);
+      tag-differs = of-code f r h 4 (tag-differs f);
+      header-broken = of-code f r h 5 (header-broken f);
+      type-unknown = of-code f r h 6 (type-unknown f);
+      text-broken = of-code f r h 7 (text-broken f);
+      sort-broken = of-code f r h 8 (sort-broken f);
+      length-of-none = of-code f r h 9 (length-of-none f);
+      map-wrong = of-code f r h 10 (map-wrong f);
+      link-broken = of-code f r h 11 (link-broken f);
+      table-broken = of-code f r h 12 (table-broken f);
+      bytes-left = of-code f r h 13 (bytes-left f);
+      bare = λ n. h .layout ∙ no-layout f (λ q. n (h .code ∙ q));
+    }

@@ -1,16 +1,17 @@
 -- The lists of long strings, of label sets and of the sort order: their numbers, and what these name, in an accepted file and in one that differs
 -- from it in dead bytes only.
 use mathlib.Core.Path.{_≡_, refl, sym, ap, _∙_, subst}
-use Prim.Native.Nat.{ℕ, zero, suc, _+_, _*_, _<_}
+use Prim.Native.Nat.{ℕ, zero, suc, _+_, _*_, _≤_, _<_}
 use native.Mathlib.Nat.{zero-add}
 use native.Mathlib.Omega.{arith}
 use mathlib.Core.List.{List, [], _∷_, _++_, map, append-assoc}
-use mathlib.Core.Bool.{Bool, false, cond, _&&_}
+use mathlib.Core.Bool.{Bool, true, false, cond}
 use lib.ListN.{length, getD, drop}
 use lib.Dec.{eqb, leb}
+use borrow.Author.Tests.{eq-eqb, ne-eqb, leb-true, leb-false, le-leb, lt-leb}
 use Rattle.format.specs.Slot.{Fits, Bytes}
 use Rattle.format.specs.Number.{Order}
-use Rattle.format.specs.Grammar.{Sect, allSlots, AllRight}
+use Rattle.format.specs.Grammar.{Sect, allSlots, AllRight, also, unless}
 use Rattle.format.specs.Edition.{Edition, edition, opening, n-lbl, n-strls, n-value-labels}
 use Rattle.format.specs.Data.{LongString, longRecord}
 use Rattle.format.specs.Labels.{Table, tableSize, LabelBlock, block}
@@ -32,21 +33,60 @@ use Rattle.write_strls.proofs.RecordLaws.{record-size, record-facts}
 use Rattle.write_labels.proofs.BlockLaws.{block-read}
 use Rattle.sources.proofs.SourceLaws.{right}
 use Rattle.long_list.specs.declared.Listed.{Listed}
-use Rattle.long_list.specs.Lists.{Lists}
+use Rattle.long_list.specs.Lists.{listCode, Lists}
 use Rattle.long_list.specs.Longs.{longsFrom, longsOf}
 use Rattle.set_list.specs.Sets.{entriesTo, entryNumbers, setsFrom, setsOf, namePlace, tablePlace}
 use Rattle.sort_order.specs.Sorted.{sortedOf}
-use Rattle.demands.specs.Demands.{longsShown, threesShown, setsShown, labelsTo, blockTexts, ListsGiven, SameNumbers, SameList}
+use Rattle.demands.specs.Demands.{longsShown, threesShown, setsShown, labelsTo, blockTexts, ListGiven, ListsGiven, SameNumbers, SameList}
+use Rattle.demands.proofs.VerdictLaws.{verdict-number}
+use Rattle.demands.proofs.RewriteLaws.{codeBy, code-judged, code-14, code-0}
 
--- ---- the answer, for files of one verdict and one list
+-- ---- the answer: the number of a list is that of a rewrite whose target holds the dataset
+
+list-number : (v : ℕ) (t : Bool) → v ≤ 13 → codeBy v true t ≤ 14
+list-number zero true b = omega arith
+list-number zero false b = omega arith
+list-number (suc v) t b = omega arith
+
+module _ (f t d w : List ℕ) (r : Listed) (L : Lists f t d w r) where
+  -- there is room
+  abbrev fits : Bool
+  fits = leb (length t) (length d)
+
+  code-with : (v : ℕ) (b : Bool) → verdict f ≡ v → fits ≡ b → r .code ≡ codeBy v true b
+  code-with v b p q = L .code ∙ (λ i. codeBy (p i) true (q i))
+
+  pub list-given : ListGiven f t d w r
+  list-given =
+      let v = verdict-number f in
+      let c : r .code ≡ codeBy (verdict f) true fits = L .code in
+      record {
+        number = rw c (list-number (verdict f) fits v);
+        judged = λ n. c ∙ code-judged (verdict f) true fits n;
+        no-room = (
+          λ q. (let x = code-14 (verdict f) true fits v (sym c ∙ q) in (x .0, omega (arith, leb-false (length t) (length d) (x .2)))),
+          λ x. code-with 0 false (x .0) (lt-leb (length t) (length d) (omega (arith, x .1))),
+        );
+        room = (
+          λ q. (let x = code-0 (verdict f) true fits (sym c ∙ q) in (x .0, leb-true (length t) (length d) (x .2))),
+          λ x. code-with 0 true (x .0) (le-leb (length t) (length d) (x .1)),
+        );
+        untouched = λ n. L .out ∙ rw (ne-eqb (listCode f t (length d)) 0 (λ q. n (L .code ∙ q)));
+        done = λ q. L .out ∙ rw (eq-eqb (listCode f t (length d)) 0 (sym (L .code) ∙ q));
+        count = λ z. L .count ∙ rw (eq-eqb (verdict f) 0 z);
+        no-count = λ n. L .count ∙ rw (ne-eqb (verdict f) 0 n);
+      }
+
+-- ---- the same for files of one verdict and one list
 
 module _ {f g t u : List ℕ} (v : verdict g ≡ verdict f) (e : u ≡ t) where
   same-lists : (d x w : List ℕ) (a b : Listed) → Lists f t d x a → Lists g u d w b → (b ≡ a) × (w ≡ x)
   same-lists d x w a b A B =
-      let code = B .code ∙ v ∙ sym (A .code) in
+      let by : listCode g u (length d) ≡ listCode f t (length d) = λ i. also (v i) (unless (leb (length (e i)) (length d)) 14) in
+      let code = B .code ∙ by ∙ sym (A .code) in
       let count = B .count ∙ (λ i. cond (eqb (v i) 0) (length (e i)) 0) ∙ sym (A .count) in (
         λ i. record { code = code i; count = count i },
-        B .out ∙ (λ i. cond (eqb (v i) 0 && leb (length (e i)) (length d)) (e i ++ drop (length (e i)) d) d) ∙ sym (A .out),
+        B .out ∙ (λ i. cond (eqb (by i) 0) (e i ++ drop (length (e i)) d) d) ∙ sym (A .out),
       )
 
 -- ---- long strings that stand one after another

@@ -17,14 +17,14 @@ use Rattle.editions.specs.Editions.{releaseBy}
 use Rattle.rewriting.specs.declared.Rewritten.{Rewritten}
 use Rattle.rewriting.specs.Rewriting.{offered, editionTo, orderTo, held, rewritten, rewriteCode, outputOf, lengthOf, Rewrites}
 use Rattle.demands.specs.Demands.{RewriteGiven}
-use Rattle.demands.proofs.CheckLaws.{verdict-number}
+use Rattle.demands.proofs.VerdictLaws.{verdict-number}
 
 -- ---- the number, from the verdict v, whether the target holds the dataset, and whether there is room
 
-abbrev codeBy : ℕ → Bool → Bool → ℕ
+abbrev pub codeBy : ℕ → Bool → Bool → ℕ
 codeBy v h t = also v (also (unless h 15) (unless t 14))
 
-code-judged : (v : ℕ) (h t : Bool) → (v ≡ 0 → ⊥) → codeBy v h t ≡ v
+pub code-judged : (v : ℕ) (h t : Bool) → (v ≡ 0 → ⊥) → codeBy v h t ≡ v
 code-judged zero h t n = absurd (n refl)
 code-judged (suc v) h t n = refl
 
@@ -40,13 +40,13 @@ code-15 zero true false b q = absurd (omega arith)
 code-15 zero false t b q = (refl, refl)
 code-15 (suc v) h t b q = absurd (omega arith)
 
-code-14 : (v : ℕ) (h t : Bool) → v ≤ 13 → codeBy v h t ≡ 14 → (v ≡ 0) × (h ≡ true) × (t ≡ false)
+pub code-14 : (v : ℕ) (h t : Bool) → v ≤ 13 → codeBy v h t ≡ 14 → (v ≡ 0) × (h ≡ true) × (t ≡ false)
 code-14 zero true true b q = absurd (omega arith)
 code-14 zero true false b q = (refl, refl, refl)
 code-14 zero false t b q = absurd (omega arith)
 code-14 (suc v) h t b q = absurd (omega arith)
 
-code-0 : (v : ℕ) (h t : Bool) → codeBy v h t ≡ 0 → (v ≡ 0) × (h ≡ true) × (t ≡ true)
+pub code-0 : (v : ℕ) (h t : Bool) → codeBy v h t ≡ 0 → (v ≡ 0) × (h ≡ true) × (t ≡ true)
 code-0 zero true true q = (refl, refl, refl)
 code-0 zero true false q = absurd (omega arith)
 code-0 zero false t q = absurd (omega arith)

@@ -1,34 +1,42 @@
 -- The three demands hold.
 use mathlib.Core.Path.{_≡_, refl, sym, ap, _∙_, subst}
-use Prim.Native.Nat.{ℕ, _≤_, _<_}
-use mathlib.Core.List.{List, []}
+use Prim.Native.Nat.{ℕ, zero, suc, _*_, _≤_, _<_}
+use mathlib.Core.List.{List, [], _++_}
 use mathlib.Core.Bool.{true, false, _&&_, true≢false}
-use lib.ListN.{length, getD, take}
+use lib.ListN.{length, getD, take, drop}
 use lib.Dec.{leb}
 use Rattle.format.specs.Number.{Order}
 use Rattle.format.specs.Edition.{Release, edition, orderMark}
-use Rattle.format.specs.Dta.{Dataset, Extras, Layout, verdict, releaseOf, orderOf, contents, datasetOf, lengthMax, deadIn, written, holds, allTypes, allShorter}
+use Rattle.format.specs.Dta.{Dataset, Extras, Layout, verdict, releaseOf, editionOf, orderOf, contents, datasetOf, lengthMax, deadIn, written, holds, allTypes, allShorter}
 use Rattle.format.proofs.Theorems.{sound, complete, round-trip, SameButDead, dead-bytes, dead-places}
 use Rattle.format.proofs.FileLaws.{itself, layout-is, written-length}
 use Rattle.format.proofs.HoldsLaws.{holds-if}
 use Rattle.editions.specs.Editions.{releaseBy}
 use Rattle.checking.specs.declared.Checked.{Checked}
 use Rattle.checking.specs.Checks.{Checks, layoutBy}
-use Rattle.questions.specs.Ask.{Question, askLong, askWords, shown, inRange, answerOf}
-use Rattle.questions.specs.Fact.{bytesOf}
+use Rattle.questions.specs.Ask.{Question, askLong, askWords, Answer, refused, shown, inRange, answerOf}
+use Rattle.questions.specs.Fact.{factOf, bytesOf}
 use Rattle.questions.proofs.Theorems.{own-answer, own-bytes, own-some, same-answer, same-shown, label-exact, label-found}
-use Rattle.asking.specs.Asking.{questionBy}
+use Rattle.asking.specs.declared.Question as Code
+use Rattle.asking.specs.declared.Answer as Told
+use Rattle.asking.specs.Asking.{questionBy, toldBy, answerBy, Asked}
+use Rattle.asking.proofs.AskLaws.{asked-means}
+use Rattle.view.specs.Words.{wordsOf}
+use Rattle.coded.specs.declared.Run.{Run}
+use Rattle.coded.specs.Coded.{numbersOf, told, Tells}
 use Rattle.rewriting.specs.declared.Rewritten.{Rewritten}
 use Rattle.rewriting.specs.Rewriting.{offered, editionTo, orderTo, rewritten, Rewrites}
-use Rattle.demands.specs.Demands.{Demand1, WellFormed, Accepted, Says, FactGiven, WordsGiven, ReadsBack, Demand2, DifferInDead, SameAnswer, SameView, Demand3}
+use Rattle.demands.specs.Demands.{Demand1, WellFormed, Accepted, Says, FactGiven, WordsGiven, ReadsBack, factsTo, Demand2, DifferInDead, SameAnswer, SameView, Demand3}
 use Rattle.demands.proofs.CheckLaws.{check-given}
-use Rattle.demands.proofs.AskLaws.{ask-given}
+use Rattle.demands.proofs.CutLaws.{cut-given}
+use Rattle.demands.proofs.AskLaws.{ask-given, told-given}
+use Rattle.demands.proofs.RunLaws.{told-same, run-given}
 use Rattle.demands.proofs.LabelLaws.{words-given}
 use Rattle.demands.proofs.RewriteLaws.{rewrite-given, done-take, offered-edition, offered-order, all-offered, same-rewrite}
-use Rattle.demands.proofs.ListLaws.{lists-given, same-long-list, same-set-list, same-sort-order}
+use Rattle.demands.proofs.ListLaws.{list-given, lists-given, same-long-list, same-set-list, same-sort-order}
 
 pub demand-1 : Demand1
-demand-1 = record { checked = check-given; asked = ask-given; rewrote = rewrite-given }
+demand-1 = record { checked = check-given; asked = ask-given; told = told-given; rewrote = rewrite-given; ran = run-given; listed = list-given }
 
 -- ---- 2
 
@@ -39,22 +47,36 @@ module _ (f : List ℕ) (c : Checked) (A : Accepted f c) where
   well-formed : WellFormed f (releaseOf f) (orderOf f) (datasetOf f) (contents f .1)
   well-formed = let s = sound f (A .is-file) ok in record { short = s .short; rules = s .right; bytes = s .fits; whole = s .whole }
 
-  facts : (q : Question) → FactGiven f (layoutBy (c .layout)) q
-  facts q =
-      subst (λ (l : Layout). FactGiven f l q) (sym (A .answer .layout))
-      (record {
-        fact = own-answer f (A .is-file) ok q;
-        bytes = own-bytes f (A .is-file) ok q;
-        answered = λ h. own-some f (A .is-file) ok q h .never;
-      })
+  -- the answer over the file's own layout
+  abbrev own : Question → Answer
+  own q = answerOf f (layoutBy (c .layout)) q
+
+  fact : (q : Question) → own q ≡ factOf (editionOf f) (orderOf f) (contents f) q
+  fact q = ap (λ (l : Layout). answerOf f l q) (A .answer .layout) ∙ own-answer f (A .is-file) ok q
+
+  bytes : (q : Question) → shown f (own q) ≡ bytesOf (editionOf f) (orderOf f) (contents f) q
+  bytes q = ap (λ (l : Layout). shown f (answerOf f l q)) (A .answer .layout) ∙ own-bytes f (A .is-file) ok q
+
+  never : (q : Question) → inRange (layoutBy (c .layout)) q ≡ true → (n : ℕ) → own q ≡ refused n → ⊥
+  never q h n e =
+      own-some f (A .is-file) ok q (subst (λ (l : Layout). inRange l q ≡ true) (A .answer .layout) h) .never n
+      (subst (λ (l : Layout). answerOf f l q ≡ refused n) (A .answer .layout) e)
+
+  facts : (q : Code.Question) (r : Told.Answer) → Asked f (layoutBy (c .layout)) q r → FactGiven f (layoutBy (c .layout)) q r
+  facts q r h =
+      record {
+        fact = h ∙ ap toldBy (fact (questionBy q));
+        bytes = bytes (questionBy q);
+        answered = λ i n e. never (questionBy q) i n (sym (asked-means f (layoutBy (c .layout)) q) ∙ ap answerBy (sym h ∙ e));
+      }
 
   words : (i j : ℕ) (lent : List ℕ) → inRange (layoutBy (c .layout)) (askWords i j lent) ≡ true
-      → WordsGiven (datasetOf f) i j lent (shown f (answerOf f (layoutBy (c .layout)) (askWords i j lent)))
+      → WordsGiven (datasetOf f) i j lent (wordsOf f lent (layoutBy (c .layout)) i j)
   unfolding bytesOf
   words i j lent h =
-      let own = A .answer .layout ∙ layout-is (releaseOf f) (orderOf f) f (contents f) (itself f ok) in
-      let there = subst (λ (l : Layout). inRange l (askWords i j lent) ≡ true) own h in
-      subst (λ (t : List ℕ). WordsGiven (datasetOf f) i j lent t) (sym (facts (askWords i j lent) .bytes ∙ rw there refl))
+      let itself-is = A .answer .layout ∙ layout-is (releaseOf f) (orderOf f) f (contents f) (itself f ok) in
+      let there = subst (λ (l : Layout). inRange l (askWords i j lent) ≡ true) itself-is h in
+      subst (λ (t : List ℕ). WordsGiven (datasetOf f) i j lent t) (sym (bytes (askWords i j lent) ∙ rw there refl))
       (words-given (datasetOf f) i j lent (label-found f (A .is-file) ok _))
 
   can-hold : (r : Release) (o : Order) → holds (edition r) o (datasetOf f)
@@ -63,6 +85,11 @@ module _ (f : List ℕ) (c : Checked) (A : Accepted f c) where
       holds-if f (A .is-file) ok o r
       ∙ ap (λ (n : ℕ). allTypes (edition r .tagged) (datasetOf f .varTypes) && (allShorter (edition r .formatWidth) (datasetOf f .displayFormats) && leb n lengthMax))
       (sym (written-length r o (datasetOf f)))
+
+  facts-told : (q : ℕ → Question) (n : ℕ) → told f (layoutBy (c .layout)) q n ≡ factsTo f q n
+  unfolding told
+  facts-told q zero = refl
+  facts-told q (suc n) = ap (λ (t : List ℕ). t ++ numbersOf (own (q n))) (facts-told q n) ∙ ap (λ (a : Answer). factsTo f q n ++ numbersOf a) (fact (q n))
 
   reads-back : (e o : ℕ) → offered e o ≡ true → holds (editionTo e) (orderTo o) (datasetOf f) ≡ true → ReadsBack f e o (rewritten f e o)
   reads-back e o h k =
@@ -90,10 +117,13 @@ demand-2 =
     record {
       only = well-formed;
       if = says;
+      cut = λ f c A. cut-given f (A .is-file) (ok f c A);
       facts = facts;
+      told = λ by f c A q r h. h ∙ ap by (fact f c A q);
       words = words;
       exact = label-exact;
       found-by = λ f c A. label-found f (A .is-file) (ok f c A) _;
+      ran = λ f c A i j q n d w r T. T .out ∙ ap (λ (t : List ℕ). t ++ drop (r .count * 4) d) (facts-told f c A q (r .count));
       listed = λ f c A. lists-given f (A .is-file) (ok f c A);
       offers = all-offered;
       can-hold = can-hold;
@@ -119,27 +149,46 @@ module _ (f g : List ℕ) (c : Checked) (A : Accepted f c) (D : DifferInDead f g
         layout = record { edition = layout i .release; order = layout i .order; k = layout i .variables; n = layout i .rows; places = layout i .places };
       }
 
-  same-asked : (q : Question) → SameAnswer f g (layoutBy (c .layout)) q
+  same-asked : (q : Question) → answerOf g (layoutBy (c .layout)) q ≡ answerOf f (layoutBy (c .layout)) q
   same-asked q =
-      subst (λ (l : Layout). SameAnswer f g l q) (sym (A .answer .layout))
-      (record { answer = same-answer f (A .is-file) (ok f c A) g (D .long) same q; bytes = same-shown f (A .is-file) (ok f c A) g (D .long) same q })
+      subst (λ (l : Layout). answerOf g l q ≡ answerOf f l q) (sym (A .answer .layout)) (same-answer f (A .is-file) (ok f c A) g (D .long) same q)
+
+  same-bytes : (q : Question) → shown g (answerOf g (layoutBy (c .layout)) q) ≡ shown f (answerOf f (layoutBy (c .layout)) q)
+  same-bytes q =
+      subst (λ (l : Layout). shown g (answerOf g l q) ≡ shown f (answerOf f l q)) (sym (A .answer .layout)) (same-shown f (A .is-file) (ok f c A) g (D .long) same q)
+
+same-told : {R : Type 0} (by : Answer → R) (f g : List ℕ) (c : Checked) → Accepted f c → DifferInDead f g → (q : Question) → SameAnswer by f g (layoutBy (c .layout)) q
+same-told by f g c A D q = record { answer = λ r s x y. y ∙ ap by (same-asked f g c A D q) ∙ sym x; bytes = same-bytes f g c A D q }
 
 same-view : (f g : List ℕ) (c : Checked) → Accepted f c → DifferInDead f g → SameView f g (layoutBy (c .layout))
 same-view f g c A D =
     record {
-      answer = λ q a b x y lent. y lent ∙ same-asked f g c A D (questionBy lent q) .answer ∙ sym (x lent);
-      text = λ q. same-asked f g c A D (questionBy [] q) .bytes;
-      long = λ i j. same-asked f g c A D (askLong i j) .bytes;
-      words = λ t i j. same-asked f g c A D (askWords i j t) .bytes;
+      answer = λ q a b x y. y ∙ ap toldBy (same-asked f g c A D (questionBy q)) ∙ sym x;
+      text = λ q. same-bytes f g c A D (questionBy q);
+      long = λ i j. same-bytes f g c A D (askLong i j);
+      words = λ t i j. same-bytes f g c A D (askWords i j t);
     }
+
+same-run : (f g : List ℕ) (c : Checked) → Accepted f c → DifferInDead f g → (i j : ℕ) (q : ℕ → Question) (n : ℕ) (d v w : List ℕ) (a b : Run)
+    → Tells f (layoutBy (c .layout)) i j q n d v a → Tells g (layoutBy (c .layout)) i j q n d w b → (b ≡ a) × (w ≡ v)
+same-run f g c A D i j q n d v w a b T U =
+    let l = layoutBy (c .layout) in
+    let e : b ≡ a = U .answer ∙ sym (T .answer) in (
+      e,
+      U .out
+          ∙ ap (λ (t : List ℕ). t ++ drop (b .count * 4) d) (told-same f g l q (λ m. same-asked f g c A D (q m)) (b .count))
+          ∙ ap (λ (x : Run). told f l q (x .count) ++ drop (x .count * 4) d) e
+          ∙ sym (T .out),
+    )
 
 pub demand-3 : Demand3
 demand-3 =
     record {
       checked = same-check;
       dataset = λ f g c A D. alike f g c A D .dataset;
-      asked = same-asked;
+      told = same-told;
       viewed = same-view;
+      ran = same-run;
       longs = λ f g c A D. same-long-list f (A .is-file) (ok f c A) g (D .long) (same f g c A D);
       sets = λ f g c A D. same-set-list f (A .is-file) (ok f c A) g (D .long) (same f g c A D);
       sorted = λ f g c A D. same-sort-order f (A .is-file) (ok f c A) g (D .long) (same f g c A D);

@@ -13,20 +13,20 @@ use denote.Enum.Declared.{tagOf}
 use Rattle.format.specs.Cells.{Says, whole, single, double, letter, between, outside, words, reference}
 use Rattle.cell.specs.Cells.{says}
 use Rattle.format.specs.Dta.{Layout, verdict}
-use Rattle.questions.specs.Ask.{Question, Answer, refused, cell, askWords, answerOf, shown}
+use Rattle.questions.specs.Ask.{Question, Answer, cell, askWords, answerOf, shown}
 use Rattle.asking.specs.Asking.{answerBy}
 use Rattle.asking.specs.declared.Answer as Told
 use Rattle.asking.proofs.Answer.{the-type}
 use Rattle.asking.specs.declared.Answer.the-variants as A
 use Rattle.coded.specs.Coded.{numbersOf}
-use Rattle.dta_facts.specs.Exports.{layoutIn, questionOf, askedIn, shownBy, codeOf, fileCode, answered}
+use Rattle.dta_facts.specs.Exports.{layoutIn, questionOf, noQuestion, askedIn, shownBy, codeOf, fileCode, answered}
 
 -- the question of the number q, where that is k
 pub question-case : (i j : ℕ) {q k : ℕ} → q ≡ k → questionOf k i j ≡ questionOf q i j
 question-case i j e = ap (λ (x : ℕ). questionOf x i j) (sym e)
 
 -- the answer to it
-pub asked-none : (f : List ℕ) (l : Layout) (q i j : ℕ) → 15 < q → refused 16 ≡ askedIn f l q i j
+pub asked-none : (f : List ℕ) (l : Layout) (q i j : ℕ) → 15 < q → noQuestion ≡ askedIn f l q i j
 unfolding askedIn
 asked-none f l q i j h = rw (lt-leb q 15 h)
 
@@ -38,8 +38,8 @@ pub asked-of : (f : List ℕ) {l m : Layout} {q r : Question} → l ≡ m → q 
 asked-of f {l} {m} {q} {r} e h = ap (λ (x : Layout). answerOf f x q) e ∙ ap (λ (x : Question). answerOf f m x) h
 
 -- the number of a refusal
-pub code-case : {x k : Told.Answer} → x ≡ k → codeOf (answerBy [] k) ≡ codeOf (answerBy [] x)
-code-case e = ap (λ (y : Told.Answer). codeOf (answerBy [] y)) (sym e)
+pub code-case : {x k : Told.Answer} → x ≡ k → codeOf (answerBy k) ≡ codeOf (answerBy x)
+code-case e = ap (λ (y : Told.Answer). codeOf (answerBy y)) (sym e)
 
 whole-code : (z : ℤ) → 0 ≡ codeOf (cell (whole z))
 whole-code (pos n) = refl
@@ -56,7 +56,7 @@ cell-code (words p n) = refl
 cell-code (reference v o) = refl
 
 -- any other answer has none
-pub no-code : (x : Told.Answer) → OneOf (1 ∷ 2 ∷ 3 ∷ 4 ∷ 5 ∷ 6 ∷ 7 ∷ []) (tagOf the-type x) → 0 ≡ codeOf (answerBy [] x)
+pub no-code : (x : Told.Answer) → OneOf (1 ∷ 2 ∷ 3 ∷ 4 ∷ 5 ∷ 6 ∷ 7 ∷ []) (tagOf the-type x) → 0 ≡ codeOf (answerBy x)
 no-code (A.Refused c) h = absurd (miss (1 ∷ 2 ∷ 3 ∷ 4 ∷ 5 ∷ 6 ∷ 7 ∷ []) 0 tt h)
 no-code (A.Count n) h = refl
 no-code (A.YesNo b) h = refl

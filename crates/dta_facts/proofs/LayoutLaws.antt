@@ -9,6 +9,7 @@ use lib.Seq.{take-all, take-suc, take-suc-set}
 use borrow.Author.Tests.{le-leb, lt-leb}
 use Rattle.format.specs.Dta.{Layout, noLayout}
 use Rattle.questions.specs.Ask.{Question}
+use Rattle.coded.specs.declared.Run.{Run}
 use Rattle.coded.specs.Coded.{following, Tells}
 use Rattle.dta_facts.specs.Exports.{layoutIn}
 
@@ -41,6 +42,6 @@ layout-none s h = rw (lt-leb 18 (length s) h)
 pub layout-some : (s w : List ℕ) → 18 ≤ length s → w ≡ take 14 (drop 4 s) → record { release = getD s 0 0; order = getD s 1 0; variables = getD s 2 0; rows = getD s 3 0; places = w } ≡ layoutIn s
 layout-some s w h e = rw (le-leb 18 (length s) h, e)
 
--- answers by the layout l, of those from i up to what it has of a kind, are answers by the layout m
-pub tells-by : (k : Layout → ℕ) (i : ℕ) {f d w : List ℕ} {l m : Layout} {q : ℕ → Question} {r : ℕ} → l ≡ m → Tells f l q (following i (k l)) d w r → Tells f m q (following i (k m)) d w r
-tells-by k i {f} {d} {w} {l} {m} {q} {r} e t = subst (λ (x : Layout). Tells f x q (following i (k x)) d w r) e t
+-- answers by the layout l, of those from a up to what it has of a kind, are answers by the layout m
+pub tells-by : (k : Layout → ℕ) (a : ℕ) {f d w : List ℕ} {l m : Layout} {i j : ℕ} {q : ℕ → Question} {r : Run} → l ≡ m → Tells f l i j q (following a (k l)) d w r → Tells f m i j q (following a (k m)) d w r
+tells-by k a {f} {d} {w} {l} {m} {i} {j} {q} {r} e t = subst (λ (x : Layout). Tells f x i j q (following a (k x)) d w r) e t

@@ -1,12 +1,13 @@
 -- What the exported functions are given, and what they store.
-use Prim.Native.Nat.{ℕ}
+use mathlib.Core.Path.{_≡_}
+use Prim.Native.Nat.{ℕ, _*_}
 use mathlib.Core.List.{List, [], _∷_, _++_}
-use mathlib.Core.Bool.{cond, _&&_}
+use mathlib.Core.Bool.{cond}
 use lib.ListN.{length, getD, take, drop}
 use lib.Dec.{eqb, leb}
 use Rattle.format.specs.Dta.{Layout, noLayout, verdict}
 use Rattle.questions.specs.Ask.{Question, Answer, refused, askEdition, askOrder, askK, askN, askLabel, askStamp, askType, askName, askFormat, askSet, askVarLabel, askDate, askSort, askCell, askLong, askWords, answerOf, shown}
-use Rattle.coded.specs.Coded.{numbersOf}
+use Rattle.coded.specs.Coded.{numbersOf, told, runOf}
 
 -- the layout of eighteen numbers, edition, byte order, K, N and the fourteen positions; all zeros where there are fewer
 abbrev pub layoutIn : List ℕ → Layout
@@ -35,10 +36,14 @@ questionOf q i j =
     (cond (eqb q 14) (askLong i j)
     (askWords i j [])))))))))))))))
 
--- the answer to the question of a number by the layout l; 16 where there is no such question. The text that is lent with label words is none: where nothing is found the
--- answer is that the caller's plain text is shown
+-- a number that is no question's: 255, which is the boundary's own and stands in no table of document 01
+abbrev pub noQuestion : Answer
+noQuestion = refused 255
+
+-- the answer to the question of a number by the layout l. The text that is lent with label words is none: where nothing is found the answer is that the caller's plain
+-- text is shown
 unfoldable pub askedIn : List ℕ → Layout → ℕ → ℕ → ℕ → Answer
-askedIn f l q i j = cond (leb q 15) (answerOf f l (questionOf q i j)) (refused 16)
+askedIn f l q i j = cond (leb q 15) (answerOf f l (questionOf q i j)) noQuestion
 
 -- the same by the layout of eighteen numbers
 abbrev pub askedBy : List ℕ → List ℕ → ℕ → ℕ → ℕ → Answer
@@ -68,10 +73,9 @@ answered a d = cond (leb 4 (length d)) (numbersOf a ++ drop 4 d) d
 abbrev pub stored : ℕ → List ℕ → List ℕ
 stored n d = cond (leb 1 (length d)) (n ∷ drop 1 d) d
 
--- how many numbers t a list of them has for the file f: 0 with a refusal
-abbrev pub countOf : List ℕ → List ℕ → ℕ
-countOf f t = cond (eqb (verdict f) 0) (length t) 0
-
--- what a slice that held d holds after the numbers t were stored for the file f, where it is accepted and there is room for all of them
-abbrev pub listed : List ℕ → List ℕ → List ℕ → List ℕ
-listed f t d = cond (eqb (verdict f) 0 && leb (length t) (length d)) (t ++ drop (length t) d) d
+-- what a run of answers to q 0, q 1, .., n at most, from the cell of variable i and observation j on promises (`Tells`): r is its number, w is what the slice of answers
+-- then holds, which was d, and v what the slice for their count holds, which was e
+pub record Runs (f : List ℕ) (l : Layout) (i j : ℕ) (q : ℕ → Question) (n : ℕ) (d w e v : List ℕ) (r : ℕ) : Type 0 where
+  pub code : r ≡ runOf l i j n (length d) .code
+  pub out : w ≡ (let m = runOf l i j n (length d) .count in told f l q m ++ drop (m * 4) d)
+  pub count : v ≡ stored (runOf l i j n (length d) .count) e

@@ -13,11 +13,12 @@ ghost use Rattle.questions.specs.Ask.{askCell, askWords};
 ghost use Rattle.format.specs.Dta.{verdict, layoutOf};
 ghost use Rattle.checking.specs.Checks.{layoutBy};
 ghost use Rattle.asking.specs.Asking.{questionBy, answerBy};
-ghost use Rattle.coded.specs.Coded.{following, Tells};
+ghost use Rattle.coded.specs.Coded.{following};
+ghost use Rattle.long_list.specs.Lists.{listCode, listCount, listOut};
 ghost use Rattle.long_list.specs.Longs.{longsOf};
 ghost use Rattle.set_list.specs.Sets.{setsOf};
 ghost use Rattle.sort_order.specs.Sorted.{sortedOf};
-ghost use Rattle.dta_facts.specs.Exports.{layoutIn, questionOf, askedIn, askedBy, shownBy, codeOf, fileCode, copied, answered, stored, countOf, listed};
+ghost use Rattle.dta_facts.specs.Exports.{layoutIn, questionOf, askedIn, askedBy, shownBy, codeOf, fileCode, copied, answered, stored, Runs};
 
 // The layout of eighteen numbers; all zeros where there are fewer.
 fn layout_in(s: &[u64]) -> Layout
@@ -49,7 +50,7 @@ fn layout_in(s: &[u64]) -> Layout
 
 // The question of a number from 0 to 15.
 fn question_of(q: u64, i: u64, j: u64) -> Question
-    ensures { λ r. ⌜ questionBy [] r ≡ questionOf q i j ⌝ }
+    ensures { λ r. ⌜ questionBy r ≡ questionOf q i j ⌝ }
 {
     match q {
         0 => Question::Edition,
@@ -71,19 +72,19 @@ fn question_of(q: u64, i: u64, j: u64) -> Question
     }
 }
 
-// The answer to the question of a number.
+// The answer to the question of a number; 255 where there is no such question.
 fn asked(file: &[u8], layout: &[u64], q: u64, i: u64, j: u64) -> Answer
-    ensures { λ r. ⌜ answerBy [] r ≡ askedBy (now (file .entry)) (now (layout .entry)) q i j ⌝ }
+    ensures { λ r. ⌜ answerBy r ≡ askedBy (now (file .entry)) (now (layout .entry)) q i j ⌝ }
 {
     if 15 < q {
-        return Answer::Refused(16);
+        return Answer::Refused(255);
     }
     viewed::asked(file, layout_in(layout), question_of(q, i, j))
 }
 
 // The refusal's number of an answer, 0 where it is none.
 fn code_of(x: Answer) -> u8
-    ensures { λ r. ⌜ r ≡ codeOf (answerBy [] x) ⌝ }
+    ensures { λ r. ⌜ r ≡ codeOf (answerBy x) ⌝ }
 {
     match x {
         Answer::Refused(c) => c,
@@ -93,15 +94,15 @@ fn code_of(x: Answer) -> u8
 
 // Stores an answer as four numbers, where `out` has room for them.
 fn put_answer(out: &mut [u64], x: Answer)
-    ensures { λ _. ⌜ now (out .exit) ≡ answered (answerBy [] x) (now (out .entry)) ⌝ }
+    ensures { λ _. ⌜ now (out .exit) ≡ answered (answerBy x) (now (out .entry)) ⌝ }
 {
     if 4 <= out.len() {
         coded::put_four(out, coded::numbers_of(x));
     }
 }
 
-// The answer to the question of a number, about variable `i` and observation `j`: 0, or the refusal's number. The answer is stored as four numbers; an
-// `answer` with no room for them is left as it came.
+// The answer to the question of a number, about variable `i` and observation `j`: 0, or the refusal's number, 255 where there is no such question. The answer
+// is stored as four numbers; an `answer` with no room for them is left as it came.
 #[no_mangle]
 pub extern "C" fn dta_ask(
     file: &[u8],
@@ -159,13 +160,13 @@ pub extern "C" fn dta_text<'a>(
 
 // The answer to the question of a number by the file's own layout; the verdict's number is stored.
 fn checked_by(file: &[u8], code: &mut u8, q: u64, i: u64, j: u64) -> Answer
-    ensures { λ r. ⌜ (now (code .exit) ≡ verdict (now (file .entry))) × (answerBy [] r ≡ askedIn (now (file .entry)) (layoutOf (now (file .entry))) q i j) ⌝ }
+    ensures { λ r. ⌜ (now (code .exit) ≡ verdict (now (file .entry))) × (answerBy r ≡ askedIn (now (file .entry)) (layoutOf (now (file .entry))) q i j) ⌝ }
 {
     let x = viewed::checked_asked(file, code, question_of(q, i, j));
     if q <= 15 {
         return x;
     }
-    Answer::Refused(16)
+    Answer::Refused(255)
 }
 
 // The first number, or the second where that is 0.
@@ -190,48 +191,6 @@ pub extern "C" fn dta_ask_file(file: &[u8], question: u64, i: u64, j: u64, answe
     first_code(verdict, code_of(x))
 }
 
-// The cells of variable `i` from observation `j` on, four numbers each, as many as `answers` has room for; gives how many.
-#[no_mangle]
-pub extern "C" fn dta_cells_down(
-    file: &[u8],
-    layout: &[u64],
-    i: u64,
-    j: u64,
-    answers: &mut [u64],
-) -> usize
-    ensures { λ r. ⌜ Tells (now (file .entry)) (layoutIn (now (layout .entry))) (λ (m : ℕ). askCell i (j + m)) (following j (layoutIn (now (layout .entry)) .rows)) (now (answers .entry)) (now (answers .exit)) r ⌝ }
-{
-    cell_runs::cells_down(file, layout_in(layout), i, j, &mut answers[..])
-}
-
-// The cells of observation `j` from variable `i` on.
-#[no_mangle]
-pub extern "C" fn dta_cells_along(
-    file: &[u8],
-    layout: &[u64],
-    i: u64,
-    j: u64,
-    answers: &mut [u64],
-) -> usize
-    ensures { λ r. ⌜ Tells (now (file .entry)) (layoutIn (now (layout .entry))) (λ (m : ℕ). askCell (i + m) j) (following i (layoutIn (now (layout .entry)) .variables)) (now (answers .entry)) (now (answers .exit)) r ⌝ }
-{
-    cell_runs::cells_along(file, layout_in(layout), i, j, &mut answers[..])
-}
-
-// The label words of the cells of variable `i` from observation `j` on.
-#[no_mangle]
-pub extern "C" fn dta_words_down(
-    file: &[u8],
-    layout: &[u64],
-    i: u64,
-    j: u64,
-    answers: &mut [u64],
-) -> usize
-    ensures { λ r. ⌜ Tells (now (file .entry)) (layoutIn (now (layout .entry))) (λ (m : ℕ). askWords i (j + m) []) (following j (layoutIn (now (layout .entry)) .rows)) (now (answers .entry)) (now (answers .exit)) r ⌝ }
-{
-    word_runs::words_down(file, layout_in(layout), i, j, &mut answers[..])
-}
-
 // Stores a number in the first place of `out`, where it has one.
 fn put_first(out: &mut [u64], n: u64)
     ensures { λ _. ⌜ now (out .exit) ≡ stored n (now (out .entry)) ⌝ }
@@ -241,32 +200,85 @@ fn put_first(out: &mut [u64], n: u64)
     }
 }
 
-// The verdict on a file; and the long strings of an accepted one, five numbers each: v, o, kind, place and length of the contents. The count of these
-// numbers is stored in the first place of `count`, where it has one, 0 with a refusal; a `list` with no room for all of them is left as it came.
+// The cells of variable `i` from observation `j` on, four numbers each, as many as `answers` has room for: 0, or 16 where there is no such variable or no
+// such observation. How many are stored is told in the first place of `count`, where it has one; 0 with a refusal.
+#[no_mangle]
+pub extern "C" fn dta_cells_down(
+    file: &[u8],
+    layout: &[u64],
+    i: u64,
+    j: u64,
+    answers: &mut [u64],
+    count: &mut [u64],
+) -> u8
+    ensures { λ r. ⌜ Runs (now (file .entry)) (layoutIn (now (layout .entry))) i j (λ (m : ℕ). askCell i (j + m)) (following j (layoutIn (now (layout .entry)) .rows)) (now (answers .entry)) (now (answers .exit)) (now (count .entry)) (now (count .exit)) r ⌝ }
+{
+    let down = cell_runs::cells_down(file, layout_in(layout), i, j, &mut answers[..]);
+    put_first(&mut count[..], down.count as u64);
+    down.code
+}
+
+// The cells of observation `j` from variable `i` on. Otherwise as `dta_cells_down`.
+#[no_mangle]
+pub extern "C" fn dta_cells_along(
+    file: &[u8],
+    layout: &[u64],
+    i: u64,
+    j: u64,
+    answers: &mut [u64],
+    count: &mut [u64],
+) -> u8
+    ensures { λ r. ⌜ Runs (now (file .entry)) (layoutIn (now (layout .entry))) i j (λ (m : ℕ). askCell (i + m) j) (following i (layoutIn (now (layout .entry)) .variables)) (now (answers .entry)) (now (answers .exit)) (now (count .entry)) (now (count .exit)) r ⌝ }
+{
+    let along = cell_runs::cells_along(file, layout_in(layout), i, j, &mut answers[..]);
+    put_first(&mut count[..], along.count as u64);
+    along.code
+}
+
+// The label words of the cells of variable `i` from observation `j` on. Otherwise as `dta_cells_down`.
+#[no_mangle]
+pub extern "C" fn dta_words_down(
+    file: &[u8],
+    layout: &[u64],
+    i: u64,
+    j: u64,
+    answers: &mut [u64],
+    count: &mut [u64],
+) -> u8
+    ensures { λ r. ⌜ Runs (now (file .entry)) (layoutIn (now (layout .entry))) i j (λ (m : ℕ). askWords i (j + m) []) (following j (layoutIn (now (layout .entry)) .rows)) (now (answers .entry)) (now (answers .exit)) (now (count .entry)) (now (count .exit)) r ⌝ }
+{
+    let words = word_runs::words_down(file, layout_in(layout), i, j, &mut answers[..]);
+    put_first(&mut count[..], words.count as u64);
+    words.code
+}
+
+// The verdict on a file; of an accepted one, the long strings, five numbers each: v, o, kind, place and length of the contents. A `list` with no room for
+// all of them is left as it came, and the answer is 14. How many numbers they are, with 14 too, is stored in the first place of `count`, where it has one; 0
+// where the file is refused.
 #[no_mangle]
 pub extern "C" fn dta_long_list(file: &[u8], list: &mut [u64], count: &mut [u64]) -> u8
-    ensures { λ r. ⌜ (r ≡ verdict (now (file .entry))) × (now (list .exit) ≡ listed (now (file .entry)) (longsOf (now (file .entry))) (now (list .entry))) × (now (count .exit) ≡ stored (countOf (now (file .entry)) (longsOf (now (file .entry)))) (now (count .entry))) ⌝ }
+    ensures { λ r. ⌜ (r ≡ listCode (now (file .entry)) (longsOf (now (file .entry))) (length (now (list .entry)))) × (now (list .exit) ≡ listOut (now (file .entry)) (longsOf (now (file .entry))) (now (list .entry))) × (now (count .exit) ≡ stored (listCount (now (file .entry)) (longsOf (now (file .entry)))) (now (count .entry))) ⌝ }
 {
     let longs = long_list::long_list(file, &mut list[..]);
     put_first(&mut count[..], longs.count);
     longs.code
 }
 
-// The verdict on a file; and the label sets of an accepted one: for each, place and length of its name and how many entries it has, and then for each
+// The verdict on a file; of an accepted one, the label sets: for each, place and length of its name and how many entries it has, and then for each
 // entry its value, as 32 bits, and place and length of its text. Otherwise as `dta_long_list`.
 #[no_mangle]
 pub extern "C" fn dta_set_list(file: &[u8], list: &mut [u64], count: &mut [u64]) -> u8
-    ensures { λ r. ⌜ (r ≡ verdict (now (file .entry))) × (now (list .exit) ≡ listed (now (file .entry)) (setsOf (now (file .entry))) (now (list .entry))) × (now (count .exit) ≡ stored (countOf (now (file .entry)) (setsOf (now (file .entry)))) (now (count .entry))) ⌝ }
+    ensures { λ r. ⌜ (r ≡ listCode (now (file .entry)) (setsOf (now (file .entry))) (length (now (list .entry)))) × (now (list .exit) ≡ listOut (now (file .entry)) (setsOf (now (file .entry))) (now (list .entry))) × (now (count .exit) ≡ stored (listCount (now (file .entry)) (setsOf (now (file .entry)))) (now (count .entry))) ⌝ }
 {
     let sets = set_list::set_list(file, &mut list[..]);
     put_first(&mut count[..], sets.count);
     sets.code
 }
 
-// The verdict on a file; and the numbers of the variables by which an accepted one is sorted, in that order. Otherwise as `dta_long_list`.
+// The verdict on a file; of an accepted one, the numbers of the variables by which it is sorted, in that order. Otherwise as `dta_long_list`.
 #[no_mangle]
 pub extern "C" fn dta_sort_order(file: &[u8], list: &mut [u64], count: &mut [u64]) -> u8
-    ensures { λ r. ⌜ (r ≡ verdict (now (file .entry))) × (now (list .exit) ≡ listed (now (file .entry)) (sortedOf (now (file .entry))) (now (list .entry))) × (now (count .exit) ≡ stored (countOf (now (file .entry)) (sortedOf (now (file .entry)))) (now (count .entry))) ⌝ }
+    ensures { λ r. ⌜ (r ≡ listCode (now (file .entry)) (sortedOf (now (file .entry))) (length (now (list .entry)))) × (now (list .exit) ≡ listOut (now (file .entry)) (sortedOf (now (file .entry))) (now (list .entry))) × (now (count .exit) ≡ stored (listCount (now (file .entry)) (sortedOf (now (file .entry)))) (now (count .entry))) ⌝ }
 {
     let sorted = sort_order::sort_order(file, &mut list[..]);
     put_first(&mut count[..], sorted.count);

@@ -23,6 +23,23 @@ numbersOf e =
       recordWidth = e .«record_width»;
     }
 
+-- .. and back
+abbrev pub editionBy : Format.Edition → Edition
+editionBy e =
+    record {
+      number = e .number;
+      tagged = e .tagged;
+      «n_width» = e .nWidth;
+      «label_max» = e .labelMax;
+      «label_length» = e .labelLength;
+      «name_width» = e .nameWidth;
+      «format_width» = e .formatWidth;
+      «var_label_width» = e .varLabelWidth;
+      «v_width» = e .vWidth;
+      «o_width» = e .oWidth;
+      «record_width» = e .recordWidth;
+    }
+
 -- the edition of a number, 117 where it is none
 abbrev pub releaseBy : ℕ → Release
 releaseBy n = cond (eqb n 113) r113 (cond (eqb n 114) r114 r117)

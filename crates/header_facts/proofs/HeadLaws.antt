@@ -16,7 +16,7 @@ use Rattle.header_facts.specs.Header.{newStamp}
 use lib.ListN.{length}
 use Rattle.questions.specs.Readings.{none, got, numberIn}
 use Rattle.reading.specs.declared.Read.{Read}
-use Rattle.reading.specs.Reads.{tryOf, NumberRead, placeIn}
+use Rattle.reading.specs.Reads.{readBy, NumberRead, placeIn}
 use Rattle.reading.proofs.ReadLaws.{read-got, read-none, room-got, room-none, number-nowhere, place-is, number-there}
 
 -- ---- a length and its bytes
@@ -43,7 +43,7 @@ module _ (o : Order) (w : ℕ) (f : List ℕ) (p : ℕ) {n : Read} (N : NumberRe
   pub stamp-none : n .there ≡ false → newStamp o w f p ≡ none
   stamp-none h = rw (read-none n (numberIn o w f p) (N .is) h)
 
-  module _ (h : n .there ≡ true) (a : Read) (A : tryOf a ≡ placeIn f (p + w + n .value + 19)) where
+  module _ (h : n .there ≡ true) (a : Read) (A : a ≡ readBy (placeIn f (p + w + n .value + 19))) where
     stamp-at : newStamp o w f p ≡ countedPart o 1 f (p + w + n .value + 19)
     stamp-at = rw (read-got n (numberIn o w f p) (N .is) h)
 

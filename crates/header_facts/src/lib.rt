@@ -1,18 +1,19 @@
 use answers::Number;
 use answers::Part;
 use checking::Layout;
+ghost use mathlib.Core.Path.{_≡_};
 ghost use mathlib.Core.Bool.{cond};
 ghost use Prim.Native.Nat.{_≤_};
 ghost use Rattle.format.specs.Number.{orderBy};
 ghost use Rattle.questions.specs.Readings.{got};
 ghost use Rattle.questions.specs.Ask.{answerOf, orRefused, count, countedPart, askEdition, askOrder, askK, askN, askLabel, askStamp};
 ghost use Rattle.checking.specs.Checks.{layoutBy};
-ghost use Rattle.answers.specs.Answers.{Tells, numberBy, noNumber, partBy, noPart, said};
+ghost use Rattle.answers.specs.Answers.{numberBy, partBy, said};
 ghost use Rattle.header_facts.specs.Header.{ForEveryFile, newStamp};
 
 // The number `value` where `read`, else 17.
 fn number_if(read: bool, value: u64) -> Number
-    ensures { λ r. ⌜ Tells numberBy noNumber (said (cond read 0 17) (got (count value))) r ⌝ }
+    ensures { λ r. ⌜ r ≡ numberBy (said (cond read 0 17) (got (count value))) ⌝ }
 {
     if !read {
         return answers::no_number(17);
@@ -55,7 +56,7 @@ pub fn rows(l: Layout) -> Number
 // A length of `w` bytes at `p`, then that many bytes.
 fn counted_part(f: &[u8], p: u64, w: usize, msf: bool) -> Part
     requires { ⌜ w ≤ 8 ⌝ }
-    ensures { λ r. ⌜ Tells partBy noPart (orRefused (countedPart (orderBy msf) w (now (f .entry)) p)) r ⌝ }
+    ensures { λ r. ⌜ r ≡ partBy (orRefused (countedPart (orderBy msf) w (now (f .entry)) p)) ⌝ }
 {
     let n = reading::number_in(f, p, w, msf);
     if !n.there {
@@ -74,7 +75,7 @@ fn counted_part(f: &[u8], p: u64, w: usize, msf: bool) -> Part
 
 // The dataset label.
 pub fn label(f: &[u8], l: Layout) -> Part
-    ensures { λ r. ⌜ Tells partBy noPart (answerOf (now (f .entry)) (layoutBy l) askLabel) r ⌝ }
+    ensures { λ r. ⌜ r ≡ partBy (answerOf (now (f .entry)) (layoutBy l) askLabel) ⌝ }
 {
     let o = reading::edition_in(l.edition, l.order);
     if !o.there {
@@ -90,7 +91,7 @@ pub fn label(f: &[u8], l: Layout) -> Part
 // The stamp of a tagged edition, with the label's length, in `w` bytes, at `p`.
 fn new_stamp(f: &[u8], p: u64, w: usize, msf: bool) -> Part
     requires { ⌜ w ≤ 4 ⌝ }
-    ensures { λ r. ⌜ Tells partBy noPart (orRefused (newStamp (orderBy msf) w (now (f .entry)) p)) r ⌝ }
+    ensures { λ r. ⌜ r ≡ partBy (orRefused (newStamp (orderBy msf) w (now (f .entry)) p)) ⌝ }
 {
     let n = reading::number_in(f, p, w, msf);
     if !n.there {
@@ -105,7 +106,7 @@ fn new_stamp(f: &[u8], p: u64, w: usize, msf: bool) -> Part
 
 // The stamp.
 pub fn stamp(f: &[u8], l: Layout) -> Part
-    ensures { λ r. ⌜ Tells partBy noPart (answerOf (now (f .entry)) (layoutBy l) askStamp) r ⌝ }
+    ensures { λ r. ⌜ r ≡ partBy (answerOf (now (f .entry)) (layoutBy l) askStamp) ⌝ }
 {
     let o = reading::edition_in(l.edition, l.order);
     if !o.there {

@@ -10,7 +10,7 @@ use lib.Seq.{take-length, take-all, take-nil}
 use borrow.Author.Tests.{eq-eqb, ne-eqb}
 use Rattle.questions.specs.Ask.{Answer, refused, part, plain, slice, shown}
 use Rattle.walks.specs.declared.Words.{Words}
-use Rattle.walks.specs.Answers.{wordsOf}
+use Rattle.label_words.proofs.WordLaws.{wordsOf}
 
 module _ (f lent : List ℕ) (w : Words) (a : Answer) (e : wordsOf lent w ≡ a) where
   pub shown-refused : (w .code ≡ 0 → ⊥) → [] ≡ shown f a

@@ -7,18 +7,19 @@ use walks::Words;
 ghost use mathlib.Core.Path.{_≡_};
 ghost use Prim.Native.Nat.{_≤_};
 ghost use Rattle.format.specs.Number.{orderBy};
-ghost use Rattle.questions.specs.Ask.{answerOf, askWords, slice, shown};
+ghost use mathlib.Core.List.{[]};
+ghost use Rattle.questions.specs.Ask.{answerOf, askTable, askWords, slice, shown};
 ghost use Rattle.checking.specs.Checks.{layoutBy};
 ghost use Rattle.cell.specs.Cells.{says, Lettered};
-ghost use Rattle.label_words.specs.Words.{setSaid, wordsAsked, SetOf, CellWords};
-ghost use Rattle.walks.specs.Answers.{Worded};
-ghost use Rattle.walks.specs.Walks.{IsSet};
+ghost use Rattle.label_words.specs.Words.{setSaid, cellWords};
+ghost use Rattle.walks.specs.Walks.{setPlace, setSays};
+ghost use Rattle.walks.specs.Answers.{wordsBy, setBy};
 ghost use Rattle.editions.specs.Editions.{numbersOf};
 
 // The label set of variable `i`; one without labels where the variable has none.
 fn set_in(f: &[u8], l: Layout, e: Edition, i: u64, msf: bool) -> LabelSet
     requires { ⌜ e .«name_width» ≤ 65535 ⌝ }
-    ensures { λ r. ⌜ IsSet (now (f .entry)) (setSaid (numbersOf e) (orderBy msf) (now (f .entry)) (layoutBy l) i) r ⌝ }
+    ensures { λ r. ⌜ r ≡ setBy (setSaid (numbersOf e) (orderBy msf) (now (f .entry)) (layoutBy l) i) ⌝ }
 {
     let w = e.name_width;
     let p = reading::place_in(
@@ -57,8 +58,11 @@ fn set_in(f: &[u8], l: Layout, e: Edition, i: u64, msf: bool) -> LabelSet
 
 // The label set of variable `i`, for as many cells as the caller asks of it.
 pub fn set_of(f: &[u8], l: Layout, i: u64) -> LabelSet
-    ensures { λ r. ⌜ SetOf (now (f .entry)) (layoutBy l) i r ⌝ }
+    ensures { λ r. ⌜ r ≡ setBy (answerOf (now (f .entry)) (layoutBy l) (askTable i)) ⌝ }
 {
+    if !reading::is_among(i, l.k) {
+        return walks::no_set(16);
+    }
     let o = reading::edition_in(l.edition, l.order);
     if !o.there {
         return walks::no_set(17);
@@ -66,10 +70,10 @@ pub fn set_of(f: &[u8], l: Layout, i: u64) -> LabelSet
     set_in(f, l, o.e, i, o.msf)
 }
 
-// The label words of a cell that says `c`, of a variable with the label set `s`.
-pub fn cell_words(f: &[u8], s: LabelSet, c: Said) -> Words
+// Where the label words of a cell that says `c`, of a variable with the label set `s`, stand, and how many text bytes are left from there on.
+pub fn cell_place(f: &[u8], s: LabelSet, c: Said, msf: bool) -> Words
     requires { ⌜ Lettered (says (c .cell)) ⌝ }
-    ensures { λ r. ⌜ CellWords (now (f .entry)) s c r ⌝ }
+    ensures { λ r. ⌜ r ≡ wordsBy (cellWords (setPlace (orderBy msf) (now (f .entry)) s) c) ⌝ }
 {
     if c.code != 0 {
         return walks::no_words(c.code);
@@ -77,17 +81,26 @@ pub fn cell_words(f: &[u8], s: LabelSet, c: Said) -> Words
     let cell = c.cell;
     let key = cell::key_of(cell);
     match key {
-        Key::Seeks(q) => walks::words_in(f, s, q),
+        Key::Seeks(q) => walks::place_in_set(f, s, q, msf),
         Key::Nothing => walks::no_words(0),
     }
 }
 
+// The label words of a cell that says `c`, of a variable with the label set `s`, in a byte order.
+pub fn cell_words(f: &[u8], s: LabelSet, c: Said, msf: bool) -> Words
+    requires { ⌜ Lettered (says (c .cell)) ⌝ }
+    ensures { λ r. ⌜ r ≡ wordsBy (cellWords (setSays (orderBy msf) (now (f .entry)) s) c) ⌝ }
+{
+    walks::ended(f, cell_place(f, s, c, msf))
+}
+
 // The label words of cell `i`, `j`: where they stand, or that the plain text is shown.
 pub fn label_words(f: &[u8], l: Layout, i: u64, j: u64) -> Words
-    ensures { λ r. ⌜ Worded (wordsAsked (now (f .entry)) (layoutBy l) i j) r ⌝ }
+    ensures { λ r. ⌜ r ≡ wordsBy (answerOf (now (f .entry)) (layoutBy l) (askWords i j [])) ⌝ }
 {
+    let o = reading::edition_in(l.edition, l.order);
     let c = cells::cell_of(f, l, i, j);
-    cell_words(f, set_of(f, l, i), c)
+    cell_words(f, set_of(f, l, i), c, o.msf)
 }
 
 // The `len` bytes at `at`, as many of them as the file has.

@@ -2,9 +2,10 @@
 use mathlib.Core.Path.{_≡_, refl, sym, ap, _∙_}
 use Prim.Native.Nat.{ℕ, _+_, _*_, _≤_}
 use native.Mathlib.Omega.{arith}
-use mathlib.Core.List.{List, []}
+use mathlib.Core.List.{List, [], _∷_}
 use mathlib.Core.Bool.{Bool, true, false, cond}
-use lib.ListN.{length}
+use lib.ListN.{length, getD}
+use lib.Seq.{sets}
 use Rattle.format.specs.Number.{Order}
 use Rattle.format.specs.Grammar.{Sect, seq, next, done, within, times, text, between}
 use Rattle.format.specs.Edition.{Edition, opening, closing, n-varnames}
@@ -15,7 +16,7 @@ use Rattle.section.specs.declared.Step.{Step}
 use Rattle.section.specs.Judged.{Judged, field}
 use Rattle.section.proofs.PartLaws.{part-by}
 use Rattle.lists.specs.declared.Lists.{Lists}
-use Rattle.lists.specs.Walks.{refusal, ListsMet, Listed}
+use Rattle.lists.specs.Walks.{refusal, listPlaces, ListsMet, Listed}
 
 -- ---- lists of text fields
 
@@ -28,21 +29,22 @@ module _ (t : Bool) (w k : ℕ) (f : List ℕ) (p : ℕ) (r : Step) where
   unfolding fields
   fields-judged n j = part-by t n _ f p r j
 
--- ---- from list to list: v is the answer of the lists from p on
+-- ---- from list to list
 
-module _ (e : Edition) (o : Order) (k : ℕ) (f : List ℕ) (p : ℕ) where
+-- p is where the types start, u the positions that came
+module _ (e : Edition) (o : Order) (k : ℕ) (f : List ℕ) (p : ℕ) (u : List ℕ) where
   abbrev T : List VarType
   T = types (e .tagged) o k .read f p
 
-  refuse : (c : ℕ) → (c ≡ 0 → ⊥) → ((n : ℕ) → c ≡ fromTypes e o (done 13) k n .judge f p) → Listed e o k f p (refusal c)
-  refuse c z h = record { refused = λ y n. h n; met = λ y. absurd (z y); inside = omega arith }
+  refuse : (c : ℕ) → (c ≡ 0 → ⊥) → ((n : ℕ) → c ≡ fromTypes e o (done 13) k n .judge f p) → Listed e o k f p u (refusal c)
+  refuse c z h = record { refused = λ y n. h n; zeros = λ y. refl; met = λ y. absurd (z y); inside = omega arith }
 
   module _ {t : Step} (Jt : Judged (types (e .tagged) o k) f p t) where
     at-types : (n : ℕ) → fromTypes e o (done 13) k n .judge f p ≡ seq (types (e .tagged) o k) (fromNames e o (done 13) k n) .judge f p
     unfolding fromTypes
     at-types n = refl
 
-    pub types-refused : (t .code ≡ 0 → ⊥) → Listed e o k f p (refusal (t .code))
+    pub types-refused : (t .code ≡ 0 → ⊥) → Listed e o k f p u (refusal (t .code))
     types-refused z = refuse (t .code) z (λ n. sym (stop (types (e .tagged) o k) (fromNames e o (done 13) k n) f (at-types n) (t .code) (Jt .code) z))
 
     module _ (zt : t .code ≡ 0) where
@@ -54,7 +56,7 @@ module _ (e : Edition) (o : Order) (k : ℕ) (f : List ℕ) (p : ℕ) where
         unfolding fromNames
         at-names n = past-types n
 
-        pub names-refused : (m .code ≡ 0 → ⊥) → Listed e o k f p (refusal (m .code))
+        pub names-refused : (m .code ≡ 0 → ⊥) → Listed e o k f p u (refusal (m .code))
         names-refused z = refuse (m .code) z (λ n. sym (stop (names (e .tagged) (e .nameWidth) k) (λ u. fromSortList e o (done 13) k n T) f (at-names n) (m .code) (Jm .code) z))
 
         module _ (zm : m .code ≡ 0) where
@@ -66,7 +68,7 @@ module _ (e : Edition) (o : Order) (k : ℕ) (f : List ℕ) (p : ℕ) where
             unfolding fromSortList
             at-sort n = past-names n
 
-            pub sort-refused : (s .code ≡ 0 → ⊥) → Listed e o k f p (refusal (s .code))
+            pub sort-refused : (s .code ≡ 0 → ⊥) → Listed e o k f p u (refusal (s .code))
             sort-refused z = refuse (s .code) z (λ n. sym (stop (sortList (e .tagged) o k) (λ u. fromFormats e o (done 13) k n T) f (at-sort n) (s .code) (Js .code) z))
 
             module _ (zs : s .code ≡ 0) where
@@ -78,7 +80,7 @@ module _ (e : Edition) (o : Order) (k : ℕ) (f : List ℕ) (p : ℕ) where
                 unfolding fromFormats
                 at-formats n = past-sort n
 
-                pub formats-refused : (d .code ≡ 0 → ⊥) → Listed e o k f p (refusal (d .code))
+                pub formats-refused : (d .code ≡ 0 → ⊥) → Listed e o k f p u (refusal (d .code))
                 formats-refused z = refuse (d .code) z (λ n. sym (stop (formats (e .tagged) (e .formatWidth) k) (λ u. fromSetNames e o (done 13) k n T) f (at-formats n) (d .code) (Jd .code) z))
 
                 module _ (zd : d .code ≡ 0) where
@@ -90,7 +92,7 @@ module _ (e : Edition) (o : Order) (k : ℕ) (f : List ℕ) (p : ℕ) where
                     unfolding fromSetNames
                     at-sets n = past-formats n
 
-                    pub sets-refused : (v .code ≡ 0 → ⊥) → Listed e o k f p (refusal (v .code))
+                    pub sets-refused : (v .code ≡ 0 → ⊥) → Listed e o k f p u (refusal (v .code))
                     sets-refused z = refuse (v .code) z (λ n. sym (stop (setNames (e .tagged) (e .nameWidth) k) (λ u. fromVarLabels e o (done 13) k n T) f (at-sets n) (v .code) (Jv .code) z))
 
                     module _ (zv : v .code ≡ 0) where
@@ -102,26 +104,28 @@ module _ (e : Edition) (o : Order) (k : ℕ) (f : List ℕ) (p : ℕ) where
                         unfolding fromVarLabels
                         at-labels n = past-sets n
 
-                        pub labels-refused : (l .code ≡ 0 → ⊥) → Listed e o k f p (refusal (l .code))
+                        pub labels-refused : (l .code ≡ 0 → ⊥) → Listed e o k f p u (refusal (l .code))
                         labels-refused z = refuse (l .code) z (λ n. sym (stop (varLabels (e .tagged) (e .varLabelWidth) k) (λ u. fromExpansions e o (done 13) n T) f (at-labels n) (l .code) (Jl .code) z))
 
                         module _ (zl : l .code ≡ 0) where
                           past-labels : (n : ℕ) → fromTypes e o (done 13) k n .judge f p ≡ fromExpansions e o (done 13) n T .judge f (l .at)
                           past-labels n = on (varLabels (e .tagged) (e .varLabelWidth) k) (λ u. fromExpansions e o (done 13) n T) f (at-labels n) (l .at) (sym zl ∙ Jl .code) (Jl .ends zl)
 
-                          pub lists-met : Listed e o k f p (record { code = 0; names = t .at; sort = m .at; formats = s .at; sets = d .at; labels = v .at; extras = l .at })
+                          -- the six places
+                          listed : t .at ∷ m .at ∷ s .at ∷ d .at ∷ v .at ∷ l .at ∷ [] ≡ listPlaces e o k f p
+                          unfolding listPlaces
+                          listed = rw (Jl .ends zl, Jv .ends zv, Jd .ends zd, Js .ends zs, Jm .ends zm, Jt .ends zt)
+
+                          pub lists-met : Listed e o k f p u (record { code = 0; at = l .at; places = sets u 3 (t .at ∷ m .at ∷ s .at ∷ d .at ∷ v .at ∷ l .at ∷ []) })
                           lists-met =
                               record {
                                 refused = λ z. absurd (z refl);
+                                zeros = λ z. absurd (z refl);
                                 met = λ z.
                                     record {
                                       types-right = sym (Jt .code) ∙ zt;
-                                      types-end = Jt .ends zt;
-                                      names-end = Jm .ends zm;
-                                      sort-ends = Js .ends zs;
-                                      formats-end = Jd .ends zd;
-                                      sets-end = Jv .ends zv;
-                                      labels-end = Jl .ends zl;
+                                      ends = ap (λ (x : List ℕ). getD x 5 0) listed;
+                                      places = ap (λ (x : List ℕ). sets u 3 x) listed;
                                       decides = past-labels;
                                     };
                                 inside = Jl .inside;

@@ -9,15 +9,12 @@ ghost use Rattle.section.specs.Judged.{Judged};
 ghost use Rattle.editions.specs.Editions.{numbersOf};
 ghost use Rattle.lists.specs.Walks.{Narrow, refusal, Listed};
 
-// The answer for the lists with an entry for each variable: the first refusal; where it is 0, where each part after the types starts.
+// The answer for the lists with an entry for each variable: the first refusal; where it is 0, where what follows them starts, and the
+// positions.
 pub struct Lists {
     pub code: u8,
-    pub names: usize,
-    pub sort: usize,
-    pub formats: usize,
-    pub sets: usize,
-    pub labels: usize,
-    pub extras: usize,
+    pub at: usize,
+    pub places: [u64; 14],
 }
 
 // A refusal.
@@ -26,12 +23,8 @@ fn refused(code: u8) -> Lists
 {
     Lists {
         code,
-        names: 0,
-        sort: 0,
-        formats: 0,
-        sets: 0,
-        labels: 0,
-        extras: 0,
+        at: 0,
+        places: [0u64; 14],
     }
 }
 
@@ -69,42 +62,51 @@ fn label_list(f: &[u8], p: usize, tagged: bool, w: usize, k: usize) -> Step
     section::text_list(f, p, first, b"</variable_labels>", tagged, k, w, false)
 }
 
-// Types, names, sort list, display formats, label-set names and variable labels of `k` variables.
-pub fn list_parts(f: &[u8], p: usize, e: Edition, k: usize, msf: bool) -> Lists
+// Types, names, sort list, display formats, label-set names and variable labels of `k` variables; stores the positions 3 to 8 in `places`.
+pub fn list_parts(
+    f: &[u8],
+    p: usize,
+    e: Edition,
+    k: usize,
+    msf: bool,
+    mut places: [u64; 14],
+) -> Lists
     requires { ⌜ (p ≤ length (now f)) × (k ≤ 32767) × (Narrow e) ⌝ }
-    ensures { λ r. ⌜ Listed (numbersOf e) (orderBy msf) k (now (f .entry)) p r ⌝ }
+    ensures { λ r. ⌜ Listed (numbersOf e) (orderBy msf) k (now (f .entry)) p places r ⌝ }
 {
     let t = variables::type_list(f, p, k, e.tagged, msf);
     if t.code != 0 {
         return refused(t.code);
     }
+    places[3] = t.at as u64;
     let n = name_list(f, t.at, e.tagged, e.name_width, k);
     if n.code != 0 {
         return refused(n.code);
     }
+    places[4] = n.at as u64;
     let s = variables::sort_list(f, n.at, k, e.tagged, msf);
     if s.code != 0 {
         return refused(s.code);
     }
+    places[5] = s.at as u64;
     let d = format_list(f, s.at, e.tagged, e.format_width, k);
     if d.code != 0 {
         return refused(d.code);
     }
+    places[6] = d.at as u64;
     let v = set_list(f, d.at, e.tagged, e.name_width, k);
     if v.code != 0 {
         return refused(v.code);
     }
+    places[7] = v.at as u64;
     let l = label_list(f, v.at, e.tagged, e.var_label_width, k);
     if l.code != 0 {
         return refused(l.code);
     }
+    places[8] = l.at as u64;
     Lists {
         code: 0,
-        names: t.at,
-        sort: n.at,
-        formats: s.at,
-        sets: d.at,
-        labels: v.at,
-        extras: l.at,
+        at: l.at,
+        places,
     }
 }

@@ -7,7 +7,7 @@ ghost use lib.ListN.{length};
 ghost use Rattle.format.specs.Number.{orderBy};
 ghost use Rattle.format.specs.Data.{longRecord};
 ghost use Rattle.writing.specs.Writes.{Puts};
-ghost use Rattle.long_list.specs.Opens.{Opens};
+ghost use Rattle.long_list.specs.Opens.{notOpened, Opens};
 ghost use Rattle.long_list.specs.Lists.{Lists};
 ghost use Rattle.long_list.specs.Told.{ToldRoom, ToldCount, ToldPut};
 ghost use Rattle.long_list.specs.Longs.{longsFrom, longsOf, longRead};
@@ -21,14 +21,16 @@ pub struct Opening {
     pub source: Source,
 }
 
-// The answer of a list: the file's refusal number; where it is 0, how many numbers the list has.
+// The answer of a list: the file's refusal number, else 14 where the slice is shorter than the list; and how many numbers the list has, 0 where
+// the file is refused.
 pub struct Listed {
     pub code: u8,
     pub count: u64,
 }
 
+// A file of which no parts are told.
 fn not_opened(code: u8, e: Edition, msf: bool) -> Opening
-    ensures { λ r. ⌜ r .code ≡ code ⌝ }
+    ensures { λ r. ⌜ r ≡ notOpened code e msf ⌝ }
 {
     Opening {
         code,
@@ -56,7 +58,7 @@ fn not_opened(code: u8, e: Edition, msf: bool) -> Opening
     }
 }
 
-// Checks a file, and finds its parts.
+// Checks a file, and finds its parts; a refusal's number alone, as the layout is zeros then.
 pub fn opened(f: &[u8]) -> Opening
     ensures { λ r. ⌜ Opens (now (f .entry)) r ⌝ }
 {
@@ -130,8 +132,8 @@ fn put_longs(
     to
 }
 
-// The long strings of a file in file order, five numbers each: v, o, kind, place and length of the contents. Where `out` has no room for all
-// of them it is left as it came.
+// The long strings of a file in file order, five numbers each: v, o, kind, place and length of the contents. An `out` with no room for all of
+// them is left as it came (14).
 pub fn long_list(f: &[u8], out: &mut [u64]) -> Listed
     ensures { λ r. ⌜ Lists (now (f .entry)) (longsOf (now (f .entry))) (now (out .entry)) (now (out .exit)) r ⌝ }
 {
@@ -145,17 +147,21 @@ pub fn long_list(f: &[u8], out: &mut [u64]) -> Listed
     let e = x.e;
     let s = x.source;
     let n = longs_count(f, s.longs, s.longsend, e.tagged, x.msf, e.record_width);
-    if n <= out.len() {
-        put_longs(
-            &mut out[..],
-            f,
-            s.longs,
-            s.longsend,
-            e.tagged,
-            x.msf,
-            e.record_width,
-        );
+    if out.len() < n {
+        return Listed {
+            code: 14,
+            count: n as u64,
+        };
     }
+    put_longs(
+        &mut out[..],
+        f,
+        s.longs,
+        s.longsend,
+        e.tagged,
+        x.msf,
+        e.record_width,
+    );
     Listed {
         code: 0,
         count: n as u64,

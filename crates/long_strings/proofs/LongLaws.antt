@@ -5,7 +5,6 @@ use mathlib.Core.List.{List}
 use mathlib.Core.Bool.{Bool, true, false, cond, _&&_}
 use lib.ListN.{length}
 use lib.Dec.{eqb}
-use borrow.Author.Tests.{ne-eqb}
 use Rattle.format.specs.Number.{Order}
 use Rattle.format.specs.Edition.{Edition, n-strls}
 use lib.IntN.{ℤ}
@@ -15,13 +14,13 @@ use Rattle.format.specs.Dta.{Layout}
 use Rattle.questions.specs.Readings.{got}
 use Rattle.questions.specs.Ask.{Answer, refused, long, orRefused, longBy, startOf, endOf}
 use Rattle.walks.specs.declared.Long.{Long}
-use Rattle.walks.specs.Answers.{longOf, noLong, Longs}
+use Rattle.walks.specs.Answers as Walks
 use Rattle.walks.specs.Walks.{recordsFrom}
 use Rattle.walks.proofs.RecordLaws.{from-past, from-out}
 use Rattle.long_strings.specs.Longs.{longSaid}
 
-pub long-alone : (a : Answer) (c : ℕ) (r : Long) → r ≡ noLong c → longOf (noLong c) ≡ a → Longs a r
-long-alone a c r e h = subst (λ (y : Long). Longs a y) (sym e) (record { is = h; alone = λ q. refl })
+pub long-alone : (a b : Answer) (r : Long) → r ≡ Walks.longBy b → b ≡ a → r ≡ Walks.longBy a
+long-alone a b r e h = e ∙ ap Walks.longBy h
 
 module _ (e : Edition) (o : Order) (f : List ℕ) (l : Layout) where
   module _ (v x : ℕ) where
@@ -78,6 +77,3 @@ module _ (e : Edition) (o : Order) (f : List ℕ) (l : Layout) where
 pub long-said : (e : Edition) (o : Order) (f : List ℕ) (l : Layout) (s : Says) → orRefused (longBy e o f l s) ≡ longSaid e o f l s
 unfolding longSaid
 long-said e o f l s = refl
-
-pub long-refused : (a : Answer) (c : ℕ) → (c ≡ 0 → ⊥) → (r : Long) → r ≡ noLong c → refused c ≡ a → Longs a r
-long-refused a c z r k h = long-alone a c r k (ap (λ (b : Bool). cond b (long 0 0 0) (refused c)) (ne-eqb c 0 z) ∙ h)

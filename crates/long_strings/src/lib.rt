@@ -12,7 +12,7 @@ ghost use Rattle.checking.specs.Checks.{layoutBy};
 ghost use Rattle.long_strings.specs.Longs.{longSaid};
 ghost use Rattle.format.specs.Cells.{reference};
 ghost use Rattle.cell.specs.Cells.{says};
-ghost use Rattle.walks.specs.Answers.{Longs};
+ghost use Rattle.walks.specs.Answers.{longBy};
 ghost use Rattle.editions.specs.Editions.{numbersOf};
 
 // Whether (`v`, `x`) is the reference of the empty text.
@@ -28,7 +28,7 @@ fn is_empty(v: u64, x: u64) -> bool
 // The long string that the reference (`v`, `x`) means.
 fn reference_long(f: &[u8], l: Layout, e: Edition, msf: bool, v: u64, x: u64) -> Long
     requires { ⌜ e .«record_width» ≤ 8 ⌝ }
-    ensures { λ r. ⌜ Longs (longSaid (numbersOf e) (orderBy msf) (now (f .entry)) (layoutBy l) (reference v x)) r ⌝ }
+    ensures { λ r. ⌜ r ≡ longBy (longSaid (numbersOf e) (orderBy msf) (now (f .entry)) (layoutBy l) (reference v x)) ⌝ }
 {
     if is_empty(v, x) {
         return walks::no_long(0);
@@ -47,7 +47,7 @@ fn reference_long(f: &[u8], l: Layout, e: Edition, msf: bool, v: u64, x: u64) ->
 // The long string that a cell means: kind 0 and empty where it means none.
 fn long_by(f: &[u8], l: Layout, e: Edition, msf: bool, c: Cell) -> Long
     requires { ⌜ e .«record_width» ≤ 8 ⌝ }
-    ensures { λ r. ⌜ Longs (longSaid (numbersOf e) (orderBy msf) (now (f .entry)) (layoutBy l) (says c)) r ⌝ }
+    ensures { λ r. ⌜ r ≡ longBy (longSaid (numbersOf e) (orderBy msf) (now (f .entry)) (layoutBy l) (says c)) ⌝ }
 {
     match c {
         Cell::Whole(_) => walks::no_long(0),
@@ -63,7 +63,7 @@ fn long_by(f: &[u8], l: Layout, e: Edition, msf: bool, c: Cell) -> Long
 
 // The long string of cell `i`, `j`.
 pub fn long_string(f: &[u8], l: Layout, i: u64, j: u64) -> Long
-    ensures { λ r. ⌜ Longs (answerOf (now (f .entry)) (layoutBy l) (askLong i j)) r ⌝ }
+    ensures { λ r. ⌜ r ≡ longBy (answerOf (now (f .entry)) (layoutBy l) (askLong i j)) ⌝ }
 {
     let o = reading::edition_in(l.edition, l.order);
     let c = cells::cell_of(f, l, i, j);

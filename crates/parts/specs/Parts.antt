@@ -12,9 +12,9 @@ use Rattle.parts.specs.declared.Span.{Span}
 abbrev pub Spans : (List ℕ → List ℕ) → Span → Type 0
 Spans g s = (f : List ℕ) → slice f (s .at) (s .len) ≡ g f
 
--- the bytes that the answer to the question q names; none where the lent plain text would be shown
+-- the bytes that the answer to the question q names; none where a plain text would be shown
 abbrev pub textOf : List ℕ → Layout → Question → List ℕ
-textOf f l q = shown f (answerOf f l (questionBy [] q))
+textOf f l q = shown f (answerOf f l (questionBy q))
 
 -- the contents of the long string of cell i, j
 abbrev pub longOf : List ℕ → Layout → ℕ → ℕ → List ℕ

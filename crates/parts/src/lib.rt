@@ -46,7 +46,7 @@ fn cell_span(c: Cell) -> Span
 
 // Where the bytes stand that an answer names, without the lent plain text.
 fn answer_span(a: Answer) -> Span
-    ensures { λ r. ⌜ Spans (λ (f : List ℕ). shown f (answerBy [] a)) r ⌝ }
+    ensures { λ r. ⌜ Spans (λ (f : List ℕ). shown f (answerBy a)) r ⌝ }
 {
     match a {
         Answer::Refused(_) => nowhere(),

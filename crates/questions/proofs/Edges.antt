@@ -14,7 +14,7 @@ use Rattle.format.specs.Cells.{whole, single, letter, outside, words, reference
 use Rattle.format.specs.Search.{searchAt}
 use Rattle.format.specs.Dta.{Layout}
 use Rattle.format.proofs.Examples.{yesNo, p14}
-use Rattle.questions.specs.Ask.{Question, askEdition, askOrder, askK, askN, askLabel, askStamp, askType, askName, askFormat, askSet, askVarLabel, askDate, askSort, askColumn, askCell, askLong, askWords, Answer, refused, count, mark, typed, part, column, plain, long, shown, answerOf}
+use Rattle.questions.specs.Ask.{Question, askEdition, askOrder, askK, askN, askLabel, askStamp, askType, askName, askFormat, askSet, askVarLabel, askDate, askSort, askColumn, askTable, askCell, askLong, askWords, unlabelled, labelled, Answer, refused, count, mark, typed, part, column, plain, long, shown, answerOf}
 use Rattle.questions.specs.Ask as Ask
 
 -- a row: what it is, a file, a layout, a question, the answer that it must get; or the bytes that the answer must show
@@ -185,8 +185,10 @@ labels =
     ∷ asks "the second block, after one of another name" (asked 1 ++ block 120 (yesNo 1 2) ++ block 121 (yesNo 0 1)) (words-by 147) (askWords 1 1 []) (part 144 2)
     ∷ asks "a block that ends after its part" (asked 1 ++ block 121 (yesNo 1 2)) (words-by 75) (askWords 1 1 []) (refused 17)
     ∷ asks "a head that ends after its part" (asked 1 ++ block 121 (yesNo 1 2)) (words-by 44) (askWords 1 1 []) (refused 17)
-    ∷ asks "of a block walked over, its name's text is enough" (asked 1 ++ take 7 (block 120 [])) (words-by 76) (askWords 1 1 (7 ∷ [])) (plain (7 ∷ []))
-    ∷ asks ".. with its zero" (asked 1 ++ take 6 (block 120 [])) (words-by 76) (askWords 1 1 (7 ∷ [])) (refused 17)
+    ∷ asks "of a block walked over, its name's text and its counts are enough" (asked 1 ++ take 48 (block 120 (yesNo 1 2))) (words-by 76) (askWords 1 1 (7 ∷ [])) (plain (7 ∷ []))
+    ∷ asks ".. and no fewer" (asked 1 ++ take 47 (block 120 (yesNo 1 2))) (words-by 76) (askWords 1 1 (7 ∷ [])) (refused 17)
+    ∷ asks "a block walked over whose table is a byte longer than its counts say" (asked 1 ++ block 120 (0 ∷ 0 ∷ 0 ∷ 2 ∷ 0 ∷ 0 ∷ 0 ∷ 6 ∷ replicate 23 0) ++ block 121 (yesNo 0 1)) (words-by 147) (askWords 1 1 []) (refused 17)
+    ∷ asks ".. or a byte shorter" (asked 1 ++ block 120 (0 ∷ 0 ∷ 0 ∷ 2 ∷ 0 ∷ 0 ∷ 0 ∷ 8 ∷ replicate 23 0) ++ block 121 (yesNo 0 1)) (words-by 147) (askWords 1 1 []) (refused 17)
     ∷ asks "counts that make up less than the table's length" (asked 1 ++ block 121 (0 ∷ 0 ∷ 0 ∷ 1 ∷ replicate 27 0)) (words-by 76) (askWords 1 1 []) (refused 17)
     ∷ asks ".. or more than it" (asked 1 ++ block 121 (0 ∷ 0 ∷ 0 ∷ 2 ∷ 0 ∷ 0 ∷ 0 ∷ 8 ∷ replicate 23 0)) (words-by 76) (askWords 1 1 []) (refused 17)
     ∷ asks "values out of order: the search as published" (asked 2 ++ block 121 (yesNo 2 1)) (words-by 76) (askWords 1 1 (7 ∷ [])) (part 69 3)
@@ -197,12 +199,19 @@ labels =
     ∷ asks "a label with its zero, its table cut" (asked 1 ++ take 68 (block 121 (yesNo 1 2))) (words-by 76) (askWords 1 1 []) (part 69 3)
     ∷ asks "117: 1 is yes" (tagged ++ yesNo 1 2) (words-117 119) (askWords 1 1 []) (part 91 3)
     ∷ asks "117: a block whose </lbl> ends after its part" (tagged ++ yesNo 1 2) (words-117 118) (askWords 1 1 []) (refused 17)
+    ∷ asks "where a label table stands" (asked 1 ++ block 121 (yesNo 1 2)) (words-by 76) (askTable 1) (Ask.labels (labelled 45 31))
+    ∷ asks ".. in 117" (tagged ++ yesNo 1 2) (words-117 119) (askTable 1) (Ask.labels (labelled 67 31))
+    ∷ asks ".. in the second block" (asked 1 ++ block 120 (yesNo 1 2) ++ block 121 (yesNo 0 1)) (words-by 147) (askTable 1) (Ask.labels (labelled 116 31))
+    ∷ asks "no label table: an empty name" (251 ∷ 1 ∷ 0 ∷ []) (words-by 99) (askTable 1) (Ask.labels unlabelled)
+    ∷ asks "no label table: no block of the name" (asked 1 ++ block 120 (yesNo 1 2)) (words-by 76) (askTable 1) (Ask.labels unlabelled)
+    ∷ asks "a label table of variable K + 1" (asked 1 ++ block 121 (yesNo 1 2)) (words-by 76) (askTable 2) (refused 16)
+    ∷ asks "a label table's name outside" (251 ∷ 1 ∷ 121 ∷ []) (words-by 99) (askTable 1) (refused 17)
     ∷ []
 
 labels-hold : AllHold labels
 unfolding labels answerOf searchAt
 labels-hold =
-    (refl, (refl, (refl, (refl, (refl, (refl, (refl, (refl, (refl, (refl, (refl, (refl, (refl, (refl, (refl, (refl, (refl, (refl, (refl, (refl, (refl, (refl, (refl, (refl, (refl, tt)))))))))))))))))))))))))
+    (refl, (refl, (refl, (refl, (refl, (refl, (refl, (refl, (refl, (refl, (refl, (refl, (refl, (refl, (refl, (refl, (refl, (refl, (refl, (refl, (refl, (refl, (refl, (refl, (refl, (refl, (refl, (refl, (refl, (refl, (refl, (refl, (refl, (refl, tt))))))))))))))))))))))))))))))))))
 
 -- ---- long strings: 117, one strL variable, its type at 16, its cell at 18, records from 26 on
 

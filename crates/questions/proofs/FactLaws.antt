@@ -5,7 +5,6 @@ use mathlib.Core.List.{List, []}
 use mathlib.Core.Bool.{Bool, true, false, cond, _&&_}
 use lib.ListN.{length}
 use lib.Dec.{eqb}
-use lib.IntN.{ℤ}
 use Rattle.format.specs.Number.{Order}
 use Rattle.format.specs.Grammar.{sizes}
 use Rattle.format.specs.Edition.{Edition, Release, edition, opening, closing, n-varnames, n-value-label-names, n-formats, n-variable-labels, n-data, n-strls, n-value-labels}
@@ -17,14 +16,14 @@ use Rattle.format.specs.Dta.{Dataset, Extras, Layout, layoutBy, partSizes}
 use Rattle.format.proofs.Good.{and-left, and-right}
 use Rattle.format.proofs.PartLaws.{place, SectionsRight, SectionsFit}
 use Rattle.questions.specs.Readings.{Try, got}
-use Rattle.questions.specs.Ask.{Question, askEdition, askOrder, askK, askN, askLabel, askStamp, askType, askName, askFormat, askSet, askVarLabel, askDate, askSort, askColumn, askCell, askLong, askWords, Answer, refused, plain, long, shown, among, inRange, startOf, endOf, cellPlace, cellIn, recordsIn, longBy, blocksIn, soughtIn, setWords, orRefused, answerIn, answerOf}
-use Rattle.questions.specs.Fact.{typeAsked, cellAsked, setAsked, cellFact, recordsFact, longFact, blocksFact, soughtFact, factIn, factOf, wordsBytes, bytesIn, bytesOf}
+use Rattle.questions.specs.Ask.{Question, askEdition, askOrder, askK, askN, askLabel, askStamp, askType, askName, askFormat, askSet, askVarLabel, askDate, askSort, askColumn, askTable, askCell, askLong, askWords, Answer, refused, long, shown, among, inRange, startOf, endOf, cellPlace, cellIn, recordsIn, longBy, blocksIn, setIn, soughtIn, setWords, orRefused, answerIn, answerOf}
+use Rattle.questions.specs.Fact.{typeAsked, cellAsked, setAsked, cellFact, recordsFact, longFact, TableFact, blocksFact, labelFact, soughtFact, tableAsked, factIn, factOf, wordsBytes, bytesIn, bytesOf}
 use Rattle.questions.proofs.ReadLaws.{answer-in}
 use Rattle.questions.proofs.FieldLaws.{TextField, part-is, name-field, text-field, own-types, own-type, types-count, own-sort}
 use Rattle.questions.proofs.HeadLaws.{HeadFacts, head-facts}
 use Rattle.questions.proofs.CellLaws.{CellFits, cell-at, own-cell}
 use Rattle.questions.proofs.LongLaws.{longs-fit, longs-right, own-records}
-use Rattle.questions.proofs.WordLaws.{blocks-fit, blocks-right, own-blocks}
+use Rattle.questions.proofs.WordLaws.{FoundAt, found-if, words-at, blocks-fit, blocks-right, own-blocks}
 use Rattle.questions.proofs.ShownLaws.{if, cell-shown, long-shown, blocks-shown, key-same}
 use Rattle.questions.proofs.SomeLaws.{Some, words-some, long-some}
 
@@ -101,19 +100,20 @@ module _ (e : Edition) (o : Order) (f : List ℕ) (d : Dataset) (x : Extras) (sm
 
   -- ---- label words
 
-  blocks-is : (lent : List ℕ) (q : ℤ) (s : List ℕ)
-      → blocksIn (e .tagged) (e .nameWidth) o f lent q s (endOf (e .tagged) own 11 n-value-labels) (suc (length f)) (startOf (e .tagged) own 11 n-value-labels)
-      ≡ blocksFact e lent q s (d .labelBlocks) (startOf (e .tagged) own 11 n-value-labels)
-  blocks-is lent q s =
-      subst (λ (z : ℕ). blocksIn (e .tagged) (e .nameWidth) o f lent q s (z - length (closing (e .tagged) n-value-labels)) (suc (length f)) (startOf (e .tagged) own 11 n-value-labels)
-      ≡ blocksFact e lent q s (d .labelBlocks) (startOf (e .tagged) own 11 n-value-labels))
-      (sym (blocks-end e o d x)) (own-blocks e o f (place e o (d, x) 11) (d .labelBlocks) lent q s (R .blockList) (P .blockList))
+  blocks-is : (s : List ℕ)
+      → FoundAt e o f (blocksIn (e .tagged) (e .nameWidth) o f s (endOf (e .tagged) own 11 n-value-labels) (suc (length f)) (startOf (e .tagged) own 11 n-value-labels))
+      (blocksFact e s (d .labelBlocks) (startOf (e .tagged) own 11 n-value-labels))
+  blocks-is s =
+      subst (λ (z : ℕ). FoundAt e o f (blocksIn (e .tagged) (e .nameWidth) o f s (z - length (closing (e .tagged) n-value-labels)) (suc (length f)) (startOf (e .tagged) own 11 n-value-labels))
+      (blocksFact e s (d .labelBlocks) (startOf (e .tagged) own 11 n-value-labels)))
+      (sym (blocks-end e o d x)) (own-blocks e o f (place e o (d, x) 11) (d .labelBlocks) s (R .blockList) (P .blockList))
 
-  words-is : (i : ℕ) (lent : List ℕ) (k : Key) → among i (d .k) ≡ true
-      → soughtIn k lent (setWords e o f own i lent) ≡ soughtFact e lent k (setAsked d i) (d .labelBlocks) (startOf (e .tagged) own 11 n-value-labels)
+  set-is : (i : ℕ) → among i (d .k) ≡ true → FoundAt e o f (setIn e o f own i) (tableAsked e o (d, x) i)
+  set-is i h = found-if e o f (nonempty (setAsked d i)) _ _ _ (rw (set-of i h .reads)) (blocks-is (setAsked d i))
+
+  words-is : (i : ℕ) (lent : List ℕ) (k : Key) → among i (d .k) ≡ true → soughtIn k lent (setWords e o f own i lent) ≡ soughtFact lent k (tableAsked e o (d, x) i)
   words-is i lent nothing h = refl
-  words-is i lent (seeks q) h =
-      rw (set-of i h .reads) (ap (λ (u : Try Answer). cond (nonempty (setAsked d i)) u (got (plain lent))) (blocks-is lent q (setAsked d i)))
+  words-is i lent (seeks q) h = let s = set-is i h in rw (s .is) (words-at e o f (tableAsked e o (d, x) i) (s .there) lent q)
 
   -- ---- every question
 
@@ -132,17 +132,17 @@ module _ (e : Edition) (o : Order) (f : List ℕ) (d : Dataset) (x : Extras) (sm
   fact-is (askDate i) h = rw (format-of i h .reads)
   fact-is (askSort i) h = rw (own-sort (e .tagged) o (d .k) f (place e o (d, x) 4) (d .sorted) i (R .sort) (P .sort))
   fact-is (askColumn i) h = rw (own-types (e .tagged) o (d .k) f (place e o (d, x) 2) (d .varTypes) (R .typeList) (P .typeList))
+  fact-is (askTable i) h = rw (set-is i h .is)
   fact-is (askCell i j) h = rw (cell-is i j h)
   fact-is (askLong i j) h = rw (cell-is i j h) (long-is (cellFact e o (d, x) i j))
   fact-is (askWords i j t) h = rw (cell-is i j h) (words-is i t (keyOf (cellFact e o (d, x) i j)) (var i j h))
 
   -- the bytes that a fact names are the dataset's
 
-  words-shown : (i : ℕ) (lent : List ℕ) (k : Key)
-      → shown f (orRefused (soughtFact e lent k (setAsked d i) (d .labelBlocks) (startOf (e .tagged) own 11 n-value-labels))) ≡ wordsBytes lent k (setAsked d i) (d .labelBlocks)
+  words-shown : (i : ℕ) (lent : List ℕ) (k : Key) → shown f (orRefused (soughtFact lent k (tableAsked e o (d, x) i))) ≡ wordsBytes lent k (setAsked d i) (d .labelBlocks)
   words-shown i lent nothing = refl
   words-shown i lent (seeks q) =
-      if (λ (t : Try Answer). shown f (orRefused t)) (nonempty (setAsked d i)) _ _ _ _
+      if (λ (t : TableFact). shown f (orRefused (labelFact lent q t))) (nonempty (setAsked d i)) _ _ _ _
       (blocks-shown e o f lent q (setAsked d i) (d .labelBlocks) (startOf (e .tagged) own 11 n-value-labels) (blocks-right e o (d .labelBlocks) (R .blockList))
       (blocks-fit e o f (place e o (d, x) 11) (d .labelBlocks) (P .blockList))) refl
 
@@ -161,6 +161,7 @@ module _ (e : Edition) (o : Order) (f : List ℕ) (d : Dataset) (x : Extras) (sm
   shown-is (askDate i) h = refl
   shown-is (askSort i) h = refl
   shown-is (askColumn i) h = refl
+  shown-is (askTable i) h = refl
   shown-is (askCell i j) h = cell-shown e o f (typeAsked d i) _ (cellAsked d i j) (cell-fits i j h)
   shown-is (askLong i j) h =
       long-shown e o f (startOf (e .tagged) own 10 n-strls) (d .longStrings) (typeAsked d i) _ (cellAsked d i j) (longs-right e o (d .cells) (d .longStrings) (R .longs))
@@ -187,9 +188,10 @@ module _ (e : Edition) (o : Order) (f : List ℕ) (d : Dataset) (x : Extras) (sm
   some-fact (askDate i) h = tt
   some-fact (askSort i) h = tt
   some-fact (askColumn i) h = tt
+  some-fact (askTable i) h = tt
   some-fact (askCell i j) h = tt
   some-fact (askLong i j) h = long-some e o (d .cells) (d .longStrings) (typeAsked d i) _ _ (i - 1) (j - 1) (R .longs) (cell-fits i j h .right)
-  some-fact (askWords i j lent) h = words-some e lent (keyOf (cellFact e o (d, x) i j)) (setAsked d i) (d .labelBlocks) _
+  some-fact (askWords i j lent) h = words-some lent (keyOf (cellFact e o (d, x) i j)) (tableAsked e o (d, x) i)
 
 -- ---- with 16
 

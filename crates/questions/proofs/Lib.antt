@@ -9,6 +9,8 @@ pub mod ShownLaws
 pub mod SomeLaws
 pub mod FactLaws
 pub mod FoundLaws
+pub mod LendLaws
+pub mod EachLaws
 pub mod OwnLaws
 pub mod Theorems
 pub mod Edges

@@ -25,7 +25,7 @@ use Rattle.format.proofs.DataLaws.{record-good}
 use Rattle.format.proofs.LabelLaws.{block-good}
 use Rattle.questions.specs.Readings.{Try, got}
 use Rattle.questions.specs.Ask.{Answer, long, shown, shownBy, orRefused, headSize, recordHead}
-use Rattle.questions.specs.Fact.{cellSays, slotFact, wordsFact, blocksFact, recordsFact, longFact, cellBytes, recordsBytes, longBytes, slotBytes, blocksBytes}
+use Rattle.questions.specs.Fact.{cellSays, slotFact, wordsFact, TableFact, blocksFact, labelFact, recordsFact, longFact, cellBytes, recordsBytes, longBytes, slotBytes, blocksBytes}
 use Rattle.questions.proofs.ReadLaws.{text-part, text-room}
 use Rattle.questions.proofs.CellLaws.{CellFits}
 use Rattle.questions.proofs.LongLaws.{long-size, long-facts}
@@ -139,14 +139,14 @@ module _ (e : Edition) (o : Order) (f : List ℕ) where
   block-of = block (e .tagged) o (e .nameWidth)
 
   pub blocks-shown : (lent : List ℕ) (q : ℤ) (s : List ℕ) (l : List LabelBlock) (p : ℕ) → AllRight block-of l → Fits f p (allSlots block-of l)
-      → seen (blocksFact e lent q s l p) ≡ blocksBytes lent q s l
+      → seen (labelFact lent q (blocksFact e s l p)) ≡ blocksBytes lent q s l
   blocks-shown lent q s [] p r m = refl
   blocks-shown lent q s (a ∷ l) p r m =
       let t = a .entries in
       let g = p + length (opening (e .tagged) n-lbl) + headSize (e .nameWidth) in
       let h = fits-left f p (block-of .slots a) (allSlots block-of l) m in
       let B = block-facts (e .tagged) o (e .nameWidth) f p a (r .0) h in
-      if seen (sameList (a .setName) s) _ _ _ _
+      if (λ (t : TableFact). seen (labelFact lent q t)) (sameList (a .setName) s) _ _ _ _
       (slot-shown lent g t (B .the-table) q (slotFact q t) (search-ends (λ i. signedBy 2147483648 (getD (t .values) i 0)) q (length (t .offsets))))
       (blocks-shown lent q s l (g + tableSize t + length (closing (e .tagged) n-lbl)) (r .1)
       (rw (B .sized) at (good-right block-of (block-good (e .tagged) o (e .nameWidth)) f p a (allSlots block-of l) m)))

@@ -12,21 +12,19 @@ use lib.IntN.{ℤ}
 use borrow.Author.Tests.{eqb-true, eq-eqb}
 use Rattle.format.specs.Number.{Order}
 use Rattle.format.specs.Grammar.{tag}
-use Rattle.format.specs.Edition.{Edition, opening, closing, n-lbl}
+use Rattle.format.specs.Edition.{Edition}
 use Rattle.format.specs.Variables.{VarType, textType, strLType, byteType, intType, longType, floatType, doubleType}
 use Rattle.format.specs.Data.{Cell, bits, link, linkOf, cell, LongString, nth, isLink, namesItself, linkRule, rowLinks, dataLinks, rowSelves, dataSelves, kindRule, recordRule, linked, strls}
-use Rattle.format.specs.Labels.{Table, tableSize, LabelBlock}
+use Rattle.format.specs.Labels.{Table}
 use Rattle.format.specs.Cells.{signedBy, Key, nothing, seeks}
 use Rattle.format.specs.Search.{found, missing, lost}
 use Rattle.format.specs.Search as Search
-use Rattle.format.specs.Dta.{sameList}
-use Rattle.format.specs.Variables.{nonempty}
 use Rattle.format.proofs.Good.{and-left, and-right}
 use Rattle.format.proofs.AreaLaws.{or-cases, or-right}
 use Rattle.questions.specs.Readings.{Try, none, got}
-use Rattle.questions.specs.Ask.{Answer, refused, count, mark, typed, part, column, plain, long, orRefused, headSize, recordHead}
+use Rattle.questions.specs.Ask.{Answer, refused, count, mark, typed, part, column, plain, long, orRefused, recordHead}
 use Rattle.questions.specs.Ask as Ask
-use Rattle.questions.specs.Fact.{cellSays, slotFact, wordsFact, blocksFact, soughtFact, recordsFact, longFact}
+use Rattle.questions.specs.Fact.{cellSays, slotFact, wordsFact, TableFact, noTable, tableFact, labelFact, soughtFact, recordsFact, longFact}
 use Rattle.format.proofs.SearchLaws.{Ends, search-ends}
 use Rattle.questions.proofs.ShownLaws.{byte-bare, int-bare, long-bare, float-bare, double-bare}
 
@@ -38,6 +36,7 @@ Answered (mark b) = Unit {0}
 Answered (typed t) = Unit {0}
 Answered (part p n) = Unit {0}
 Answered (column t p n) = Unit {0}
+Answered (Ask.labels s) = Unit {0}
 Answered (Ask.cell s) = Unit {0}
 Answered (plain t) = Unit {0}
 Answered (long k p n) = Unit {0}
@@ -67,18 +66,14 @@ slot-some lent p t q (found m) b = tt
 slot-some lent p t q missing b = tt
 slot-some lent p t q lost b = b
 
-blocks-some : (e : Edition) (lent : List ℕ) (q : ℤ) (s : List ℕ) (l : List LabelBlock) (p : ℕ) → Some (blocksFact e lent q s l p)
-blocks-some e lent q s [] p = tt
-blocks-some e lent q s (b ∷ l) p =
-    let a = p + length (opening (e .tagged) n-lbl) + headSize (e .nameWidth) in
-    let t = b .entries in
-    some-if (sameList (b .setName) s) _ _
-    (slot-some lent a t q (slotFact q t) (search-ends (λ i. signedBy 2147483648 (getD (t .values) i 0)) q (length (t .offsets))))
-    (blocks-some e lent q s l (a + tableSize t + length (closing (e .tagged) n-lbl)))
+label-some : (lent : List ℕ) (q : ℤ) (t : TableFact) → Some (labelFact lent q t)
+label-some lent q noTable = tt
+label-some lent q (tableFact p t) =
+    slot-some lent p t q (slotFact q t) (search-ends (λ i. signedBy 2147483648 (getD (t .values) i 0)) q (length (t .offsets)))
 
-pub words-some : (e : Edition) (lent : List ℕ) (k : Key) (s : List ℕ) (l : List LabelBlock) (p : ℕ) → Some (soughtFact e lent k s l p)
-words-some e lent nothing s l p = tt
-words-some e lent (seeks q) s l p = some-if (nonempty s) _ _ (blocks-some e lent q s l p) tt
+pub words-some : (lent : List ℕ) (k : Key) (t : TableFact) → Some (soughtFact lent k t)
+words-some lent nothing t = tt
+words-some lent (seeks q) t = label-some lent q t
 
 -- ---- long strings
 

@@ -21,7 +21,7 @@ use Rattle.format.proofs.Good.{and-left, and-right, number-good, all-sized, ele
 use Rattle.format.proofs.AreaLaws.{or-right, past-gives, member-live, slot-taken}
 use Rattle.format.proofs.LabelLaws.{numbers-wide}
 use Rattle.questions.specs.Readings.{got, numberIn, textIn}
-use Rattle.questions.specs.Ask.{slice, slotIn, tableIn}
+use Rattle.questions.specs.Ask.{slice, slotIn, tableIn, sizedIn}
 use Rattle.questions.specs.Fact.{labelAt, slotFact, wordsFact}
 use Rattle.questions.proofs.ReadLaws.{number-in, number-is, text-in, text-part}
 use Rattle.format.proofs.SearchLaws.{search-same, Ends, search-ends}
@@ -167,9 +167,9 @@ module _ (o : Order) (f : List ℕ) (p : ℕ) (t : Table) (F : TableFacts o f p 
       ap (λ (x : ℕ). signedBy 2147483648 (num o 4 f x)) e ∙ ap (λ (x : ℕ). signedBy 2147483648 x) (F .read-value i b .is)))
       (λ i b. le-leb (vals + 4 * i + 4) (length f) (omega (arith, F .read-value i b .inside))))
 
-  pub table-at : (lent : List ℕ) (q : ℤ) → tableIn o f lent q (tableSize t) p ≡ wordsFact lent p t (slotFact q t)
-  table-at lent q =
-      let n = length (t .offsets) in
-      let x = length (t .texts) in
-      rw (le-leb 8 (tableSize t) (omega arith), F .read-n, F .read-x, eq-eqb (tableSize t) (8 + (8 * n + x)) refl, search-is q)
-      (entry-at lent q (slotFact q t) (search-ends value q n))
+  pub table-at : (lent : List ℕ) (q : ℤ) → tableIn o f lent q p ≡ wordsFact lent p t (slotFact q t)
+  table-at lent q = rw (F .read-n, F .read-x, search-is q) (entry-at lent q (slotFact q t) (search-ends value q (length (t .offsets))))
+
+  -- it is as long as it says
+  pub table-sized : sizedIn o f (tableSize t) p ≡ got tt
+  table-sized = rw (F .read-n, F .read-x, eq-eqb (tableSize t) (8 + (8 * length (t .offsets) + length (t .texts))) refl)

@@ -1,9 +1,9 @@
 -- Label blocks of an accepted file.
-use mathlib.Core.Path.{_≡_, ap, _∙_}
+use mathlib.Core.Path.{_≡_, refl, ap, _∙_}
 use Prim.Native.Nat.{ℕ, zero, suc, _+_, _-_, _≤_, _<_}
 use native.Mathlib.Omega.{arith}
 use mathlib.Core.List.{List, [], _∷_, _++_, map}
-use mathlib.Core.Bool.{Bool, cond}
+use mathlib.Core.Bool.{Bool, true, false, cond}
 use lib.ListN.{length, replicate, length-map, length-append}
 use lib.IntN.{ℤ}
 use borrow.Author.Tests.{le-leb, lt-ltb, le-ltb}
@@ -18,14 +18,14 @@ use Rattle.format.proofs.SlotLaws.{fits-left, fits-right, fits-after, fits-boun
 use Rattle.format.proofs.Good.{text-read, text-length, good-bound, good-right}
 use Rattle.format.proofs.LabelLaws.{block-good, numbers-wide}
 use Rattle.questions.specs.Readings.{Try, got, numberIn, textIn}
-use Rattle.questions.specs.Ask.{Answer, headSize, blocksIn}
-use Rattle.questions.specs.Fact.{slotFact, wordsFact, blocksFact}
+use Rattle.questions.specs.Ask.{Labels, unlabelled, headSize, blocksIn, labelsIn}
+use Rattle.questions.specs.Fact.{TableFact, noTable, tableFact, blocksFact, labelsFact, labelFact}
 use Rattle.questions.proofs.ReadLaws.{number-is, text-in, text-room}
-use Rattle.questions.proofs.TableLaws.{TableFacts, table-facts, table-at}
+use Rattle.questions.proofs.TableLaws.{TableFacts, table-facts, table-at, table-sized}
 
-table-sized : (o : Order) (w : ℕ) (t : Table) → table o w .Right t → table o w .size t ≡ tableSize t
+table-size : (o : Order) (w : ℕ) (t : Table) → table o w .Right t → table o w .size t ≡ tableSize t
 unfolding table tableHead tableBody
-table-sized o w t r =
+table-size o w t r =
     omega (arith, numbers-wide o (length (t .offsets)) (t .offsets) (r .1 .1 .0), numbers-wide o (length (t .offsets)) (t .values) (r .1 .1 .1 .0 .0))
 
 module _ (t : Bool) (o : Order) (w : ℕ) where
@@ -56,7 +56,7 @@ module _ (t : Bool) (o : Order) (w : ℕ) where
         read-size = number-is o 4 s f q (r .1 .0 .0) (fits-left f q (numSlots o 4 s) (N ++ Z) h);
         read-name = text-in w f (q + 4) (text-room w (b .setName) f (q + 4) n) ∙ ap (λ (x : List ℕ). got x) (text-read w (b .setName) f (q + 4) (omega (arith, k .0)) (k .1) n);
         the-table = table-facts o s f (q + headSize w) (b .entries) (r .1 .1 .0) c;
-        sized = omega (arith, table-sized o s (b .entries) (r .1 .1 .0));
+        sized = omega (arith, table-size o s (b .entries) (r .1 .1 .0));
       }
 
 module _ (e : Edition) (o : Order) where
@@ -66,12 +66,40 @@ module _ (e : Edition) (o : Order) where
   abbrev head : ℕ
   head = headSize (e .nameWidth)
 
+  -- a table stands in the file
+  abbrev There : List ℕ → TableFact → Type 0
+  There f noTable = Unit {0}
+  There f (tableFact p t) = TableFacts o f p t
+
+  there-if : (f : List ℕ) (b : Bool) (x y : TableFact) → There f x → There f y → There f (cond b x y)
+  there-if f true x y a b = a
+  there-if f false x y a b = b
+
+  labels-if : (b : Bool) (x y : TableFact) (n : Try Labels) → n ≡ got (labelsFact y) → cond b (got (labelsFact x)) n ≡ got (labelsFact (cond b x y))
+  labels-if true x y n h = refl
+  labels-if false x y n h = h
+
+  -- the dataset's table is what is found in the file, and stands there
+  pub record FoundAt (f : List ℕ) (r : Try Labels) (t : TableFact) : Type 0 where
+    pub is : r ≡ got (labelsFact t)
+    pub there : There f t
+
+  -- .. where a test decides, r being what is found by it
+  pub found-if : (f : List ℕ) (b : Bool) (r n : Try Labels) (t : TableFact) → r ≡ cond b n (got unlabelled) → FoundAt f n t → FoundAt f r (cond b t noTable)
+  found-if f true r n t h k = record { is = h ∙ k .is; there = k .there }
+  found-if f false r n t h k = record { is = h; there = tt }
+
+  -- the words in a table that stands there
+  pub words-at : (f : List ℕ) (t : TableFact) → There f t → (lent : List ℕ) (q : ℤ) → labelsIn o f lent q (labelsFact t) ≡ labelFact lent q t
+  words-at f noTable h lent q = refl
+  words-at f (tableFact p t) h lent q = table-at o f p t h lent q
+
   -- the walk over the blocks is the search in the dataset's list
-  module _ (f : List ℕ) (lent : List ℕ) (q : ℤ) (s : List ℕ) (z : ℕ) where
+  module _ (f : List ℕ) (s : List ℕ) (z : ℕ) where
     blocks-at : (l : List LabelBlock) (k p : ℕ) → length f < p + k → p ≤ length f → z ≡ p + sizes one l → AllRight one l → Fits f p (allSlots one l)
-        → blocksIn (e .tagged) (e .nameWidth) o f lent q s z k p ≡ blocksFact e lent q s l p
+        → FoundAt f (blocksIn (e .tagged) (e .nameWidth) o f s z k p) (blocksFact e s l p)
     blocks-at [] zero p b u y r m = absurd (omega arith)
-    blocks-at [] (suc k) p b u y r m = rw (le-ltb p z (omega arith))
+    blocks-at [] (suc k) p b u y r m = record { is = rw (le-ltb p z (omega arith)); there = tt }
     blocks-at (a ∷ l) zero p b u y r m = absurd (omega arith)
     blocks-at (a ∷ l) (suc k) p b u y r m =
         let w = tableSize (a .entries) in
@@ -83,8 +111,13 @@ module _ (e : Edition) (o : Order) where
         let d = good-bound one (block-good (e .tagged) o (e .nameWidth)) f p a h in
         let i = blocks-at l k (g + head + w + c) (omega arith) (omega arith) (omega (arith, x, y)) (r .1)
         (rw x at (good-right one (block-good (e .tagged) o (e .nameWidth)) f p a (allSlots one l) m)) in
-        rw (lt-ltb p z (omega (arith, x, y)), le-leb (g + head) z (omega (arith, x, y)), B .read-size, le-leb (g + head + w + c) z (omega (arith, x, y)), B .read-name, table-at o f (g + head) (a .entries) (B .the-table) lent q)
-        (ap (λ (v : Try Answer). cond (sameList (a .setName) s) (wordsFact lent (g + head) (a .entries) (slotFact q (a .entries))) v) i)
+        let T = tableFact (g + head) (a .entries) in
+        let R = blocksFact e s l (g + head + w + c) in
+        record {
+          is = rw (lt-ltb p z (omega (arith, x, y)), le-leb (g + head) z (omega (arith, x, y)), B .read-size, le-leb (g + head + w + c) z (omega (arith, x, y)), B .read-name, table-sized o f (g + head) (a .entries) (B .the-table))
+              (labels-if (sameList (a .setName) s) T R _ (i .is));
+          there = there-if f (sameList (a .setName) s) T R (B .the-table) (i .there);
+        }
 
   -- the blocks of a part that stands at p
   pub blocks-fit : (f : List ℕ) (p : ℕ) (l : List LabelBlock) → Fits f p (blocks (e .tagged) o (e .nameWidth) (done 13) .slots l)
@@ -100,13 +133,13 @@ module _ (e : Edition) (o : Order) where
   unfolding blocks tag
   blocks-right l r = r .1 .0
 
-  pub own-blocks : (f : List ℕ) (p : ℕ) (l : List LabelBlock) (lent : List ℕ) (q : ℤ) (s : List ℕ) → blocks (e .tagged) o (e .nameWidth) (done 13) .Right l
+  pub own-blocks : (f : List ℕ) (p : ℕ) (l : List LabelBlock) (s : List ℕ) → blocks (e .tagged) o (e .nameWidth) (done 13) .Right l
       → Fits f p (blocks (e .tagged) o (e .nameWidth) (done 13) .slots l)
       → let c = length (closing (e .tagged) n-value-labels) in
       let g = length (opening (e .tagged) n-value-labels) in
-      blocksIn (e .tagged) (e .nameWidth) o f lent q s (p + (g + (sizes one l + c)) - c) (suc (length f)) (p + g) ≡ blocksFact e lent q s l (p + g)
-  own-blocks f p l lent q s r m =
+      FoundAt f (blocksIn (e .tagged) (e .nameWidth) o f s (p + (g + (sizes one l + c)) - c) (suc (length f)) (p + g)) (blocksFact e s l (p + g))
+  own-blocks f p l s r m =
       let b = blocks-fit f p l m in
       let g = p + length (opening (e .tagged) n-value-labels) in
       let c = fits-bound f g (allSlots one l) b in
-      blocks-at f lent q s _ l (suc (length f)) g (omega arith) (omega arith) (omega arith) (blocks-right l r) b
+      blocks-at f s _ l (suc (length f)) g (omega arith) (omega arith) (omega arith) (blocks-right l r) b

@@ -21,12 +21,17 @@ use Rattle.questions.specs.Readings.{Try, none, got, bind, test, room, n
 pub data Question : Type 0 where
   -- header facts
   askEdition askOrder askK askN askLabel askStamp : Question
-  -- of a variable: type, name, display format, label-set name, variable label, date mark, first sort place, and where its cells stand
-  askType askName askFormat askSet askVarLabel askDate askSort askColumn : ℕ → Question
+  -- of a variable: type, name, display format, label-set name, variable label, date mark, first sort place, and where its cells and its label table stand
+  askType askName askFormat askSet askVarLabel askDate askSort askColumn askTable : ℕ → Question
   -- of a cell: its content, its long string
   askCell askLong : ℕ → ℕ → Question
   -- .. its label words, with the plain text that is shown where there are none
   askWords : ℕ → ℕ → List ℕ → Question
+
+-- where a variable's label table stands: place and length; none where the label-set name is empty or no block has it
+pub data Labels : Type 0 where
+  unlabelled : Labels
+  labelled : ℕ → ℕ → Labels
 
 -- an answer
 pub data Answer : Type 0 where
@@ -40,6 +45,8 @@ pub data Answer : Type 0 where
   part : ℕ → ℕ → Answer
   -- a variable's type, the offset of its cells in a row, the width of a row
   column : VarType → ℕ → ℕ → Answer
+  -- a variable's label table
+  labels : Labels → Answer
   -- what a cell says
   cell : Says → Answer
   -- the lent plain text
@@ -70,6 +77,7 @@ shown f (mark b) = []
 shown f (typed t) = []
 shown f (part p n) = slice f p n
 shown f (column t p n) = []
+shown f (labels s) = []
 shown f (cell s) = shownBy f s
 shown f (plain t) = t
 shown f (long k p n) = slice f p n
@@ -116,6 +124,7 @@ inRange l (askVarLabel i) = among i (l .variables)
 inRange l (askDate i) = among i (l .variables)
 inRange l (askSort i) = among i (l .variables)
 inRange l (askColumn i) = among i (l .variables)
+inRange l (askTable i) = among i (l .variables)
 inRange l (askCell i j) = among i (l .variables) && among j (l .rows)
 inRange l (askLong i j) = among i (l .variables) && among j (l .rows)
 inRange l (askWords i j t) = among i (l .variables) && among j (l .rows)
@@ -254,20 +263,25 @@ slotIn o f lent p n x (found m) = entryIn o f p n x m
 slotIn o f lent p n x missing = got (plain lent)
 slotIn o f lent p n x lost = none
 
--- the words for the value q in a table of w bytes at p: its count and text length must make up w
-abbrev pub tableIn : Order → List ℕ → List ℕ → ℤ → ℕ → ℕ → Try Answer
-tableIn o f lent q w p =
-    bind (test (leb 8 w)) λ u.
+-- the words for the value q in a table at p
+abbrev pub tableIn : Order → List ℕ → List ℕ → ℤ → ℕ → Try Answer
+tableIn o f lent q p =
     bind (numberIn o 4 f p) λ n.
     bind (numberIn o 4 f (p + 4)) λ x.
-    bind (test (eqb w (8 + (8 * n + x)))) λ u.
     slotIn o f lent p n x (searchAt o f (p + 8 + n * 4) (length f) n q .slot)
 
 -- bytes of a block's table length, name and padding
 abbrev pub headSize : ℕ → ℕ
 headSize nameWidth = 4 + (nameWidth + 3)
 
--- table length and name of a block that starts at p: it must lie whole in its part, which ends at z
+-- a table of w bytes at p: its count and text length must make up w
+abbrev pub sizedIn : Order → List ℕ → ℕ → ℕ → Try (Unit {0})
+sizedIn o f w p =
+    bind (numberIn o 4 f p) λ n.
+    bind (numberIn o 4 f (p + 4)) λ x.
+    test (eqb w (8 + (8 * n + x)))
+
+-- table length and name of a block that starts at p: it must lie whole in its part, which ends at z, and its table must be as long as it says
 abbrev pub blockIn : Bool → ℕ → Order → List ℕ → ℕ → ℕ → Try (ℕ × List ℕ)
 blockIn t w o f z p =
     let q = p + length (opening t n-lbl) in
@@ -275,31 +289,40 @@ blockIn t w o f z p =
     bind (numberIn o 4 f q) λ n.
     bind (test (leb (q + headSize w + n + length (closing t n-lbl)) z)) λ u.
     bind (textIn w f (q + 4)) λ s.
+    bind (sizedIn o f n (q + headSize w)) λ u.
     got (n, s)
 
--- the words for the value q in the first block from p on whose name is s, in at most k steps: no walk has more than the file has bytes
-module _ (t : Bool) (w : ℕ) (o : Order) (f : List ℕ) (lent : List ℕ) (q : ℤ) (s : List ℕ) (z : ℕ) where
-  abbrev pub blocksIn : ℕ → ℕ → Try Answer
+-- the table of the first block from p on whose name is s, in at most k steps: no walk has more than the file has bytes
+module _ (t : Bool) (w : ℕ) (o : Order) (f : List ℕ) (s : List ℕ) (z : ℕ) where
+  abbrev pub blocksIn : ℕ → ℕ → Try Labels
   blocksIn zero p = none
   blocksIn (suc k) p =
       let r = bind (blockIn t w o f z p) λ b.
       (let a = p + length (opening t n-lbl) + headSize w in
-      let here = tableIn o f lent q (b .0) a in
       let on = blocksIn k (a + b .0 + length (closing t n-lbl)) in
-      cond (sameList (b .1) s) here on) in
-      cond (ltb p z) r (got (plain lent))
+      cond (sameList (b .1) s) (got (labelled a (b .0))) on) in
+      cond (ltb p z) r (got unlabelled)
+
+-- the label table of variable i
+abbrev pub setIn : Edition → Order → List ℕ → Layout → ℕ → Try Labels
+setIn e o f l i =
+    bind (textIn (e .nameWidth) f (fieldPlace (e .tagged) l 6 n-value-label-names (e .nameWidth) i)) λ s.
+    (let r = blocksIn (e .tagged) (e .nameWidth) o f s (endOf (e .tagged) l 11 n-value-labels) (suc (length f)) (startOf (e .tagged) l 11 n-value-labels) in
+    cond (nonempty s) r (got unlabelled))
+
+-- the words for the value q in a label table; the plain text where there is none
+abbrev pub labelsIn : Order → List ℕ → List ℕ → ℤ → Labels → Try Answer
+labelsIn o f lent q unlabelled = got (plain lent)
+labelsIn o f lent q (labelled p n) = tableIn o f lent q p
 
 -- the words for what is sought: the plain text where that is nothing
 abbrev pub soughtIn : Key → List ℕ → (ℤ → Try Answer) → Try Answer
 soughtIn nothing lent k = got (plain lent)
 soughtIn (seeks q) lent k = k q
 
--- the words for the value q of variable i: its label set's; the plain text where it has none
+-- the words for the value q of variable i
 abbrev pub setWords : Edition → Order → List ℕ → Layout → ℕ → List ℕ → ℤ → Try Answer
-setWords e o f l i lent q =
-    bind (textIn (e .nameWidth) f (fieldPlace (e .tagged) l 6 n-value-label-names (e .nameWidth) i)) λ s.
-    (let r = blocksIn (e .tagged) (e .nameWidth) o f lent q s (endOf (e .tagged) l 11 n-value-labels) (suc (length f)) (startOf (e .tagged) l 11 n-value-labels) in
-    cond (nonempty s) r (got (plain lent)))
+setWords e o f l i lent q = bind (setIn e o f l i) (labelsIn o f lent q)
 
 -- the label words of cell i, j
 abbrev pub wordsIn : Edition → Order → List ℕ → Layout → ℕ → ℕ → List ℕ → Try Answer
@@ -361,6 +384,7 @@ answerIn e o f l (askVarLabel i) = textPart (e .varLabelWidth) f (fieldPlace (e 
 answerIn e o f l (askDate i) = bind (textIn (e .formatWidth) f (fieldPlace (e .tagged) l 5 n-formats (e .formatWidth) i)) λ t. got (mark (isDate t))
 answerIn e o f l (askSort i) = bind (sortIn o f i (suc (l .variables)) 0 (startOf (e .tagged) l 4 n-sortlist)) λ x. got (count x)
 answerIn e o f l (askColumn i) = columnIn e o f l i
+answerIn e o f l (askTable i) = bind (setIn e o f l i) λ s. got (labels s)
 answerIn e o f l (askCell i j) = bind (cellIn e o f l i j) λ s. got (cell s)
 answerIn e o f l (askLong i j) = longIn e o f l i j
 answerIn e o f l (askWords i j t) = wordsIn e o f l i j t

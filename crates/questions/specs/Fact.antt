@@ -1,21 +1,21 @@
 -- What a dataset answers, in an edition and a byte order: places by its layout, all else by the dataset alone.
-use Prim.Native.Nat.{ℕ, zero, suc, _+_, _-_, _*_}
+use Prim.Native.Nat.{ℕ, suc, _+_, _-_, _*_}
 use mathlib.Core.List.{List, [], _∷_}
 use mathlib.Core.Bool.{Bool, true, false, cond, _&&_}
 use lib.ListN.{length, getD}
 use lib.Dec.{eqb}
 use lib.IntN.{ℤ}
 use Rattle.format.specs.Number.{Order}
-use Rattle.format.specs.Grammar.{Sect, textAt}
+use Rattle.format.specs.Grammar.{textAt}
 use Rattle.format.specs.Edition.{Edition, opening, closing, n-varnames, n-formats, n-value-label-names, n-variable-labels, n-data, n-strls, n-value-labels, n-lbl}
 use Rattle.format.specs.Variables.{VarType, textType, strLType, byteType, intType, longType, floatType, doubleType, nonempty}
 use Rattle.format.specs.Data.{Cell, bits, bitsOf, charsOf, linkOf, LongString}
 use Rattle.format.specs.Labels.{Table, tableSize, LabelBlock}
 use Rattle.format.specs.Cells.{Says, whole, single, double, letter, between, outside, words, reference, saysWhole, saysFloat, saysDouble, signedBy, Key, nothing, seeks, keyOf}
 use Rattle.format.specs.Search.{Slot, found, missing, lost, search}
-use Rattle.format.specs.Dta.{Dataset, Extras, Layout, layoutBy, sameList}
+use Rattle.format.specs.Dta.{Dataset, Extras, layoutBy, sameList}
 use Rattle.questions.specs.Readings.{Try, none, got}
-use Rattle.questions.specs.Ask.{Question, askEdition, askOrder, askK, askN, askLabel, askStamp, askType, askName, askFormat, askSet, askVarLabel, askDate, askSort, askColumn, askCell, askLong, askWords, Answer, refused, count, mark, typed, part, column, cell, plain, long, orRefused, startOf, fieldPlace, inRange, oldLabelPlace, newLabelPlace, stampGap, isDate, offsetIn, widthIn, cellPlace, headSize, recordHead}
+use Rattle.questions.specs.Ask.{Question, askEdition, askOrder, askK, askN, askLabel, askStamp, askType, askName, askFormat, askSet, askVarLabel, askDate, askSort, askColumn, askTable, askCell, askLong, askWords, Labels, unlabelled, labelled, Answer, refused, count, mark, typed, part, column, labels, cell, plain, long, orRefused, startOf, fieldPlace, inRange, oldLabelPlace, newLabelPlace, stampGap, isDate, offsetIn, widthIn, cellPlace, headSize, recordHead}
 
 -- what a cell of the dataset says, which stands at p
 abbrev pub cellSays : VarType → ℕ → Cell → Says
@@ -57,19 +57,38 @@ wordsFact lent p t (found m) =
 wordsFact lent p t missing = got (plain lent)
 wordsFact lent p t lost = none
 
--- the words for the value q in the first block whose name is s, with the first block at p
-module _ (e : Edition) (lent : List ℕ) (q : ℤ) (s : List ℕ) where
-  abbrev pub blocksFact : List LabelBlock → ℕ → Try Answer
-  blocksFact [] p = got (plain lent)
+-- a label table of the dataset with its place; or none
+pub data TableFact : Type 0 where
+  noTable : TableFact
+  tableFact : ℕ → Table → TableFact
+
+-- the table of the first block whose name is s, with the first block at p
+module _ (e : Edition) (s : List ℕ) where
+  abbrev pub blocksFact : List LabelBlock → ℕ → TableFact
+  blocksFact [] p = noTable
   blocksFact (b ∷ l) p =
       let a = p + length (opening (e .tagged) n-lbl) + headSize (e .nameWidth) in
-      cond (sameList (b .setName) s) (wordsFact lent a (b .entries) (slotFact q (b .entries)))
+      cond (sameList (b .setName) s) (tableFact a (b .entries))
       (blocksFact l (a + tableSize (b .entries) + length (closing (e .tagged) n-lbl)))
 
--- the words for what is sought under the set name s
-abbrev pub soughtFact : Edition → List ℕ → Key → List ℕ → List LabelBlock → ℕ → Try Answer
-soughtFact e lent nothing s l p = got (plain lent)
-soughtFact e lent (seeks q) s l p = cond (nonempty s) (blocksFact e lent q s l p) (got (plain lent))
+-- .. none where s is empty
+abbrev pub setFact : Edition → List ℕ → List LabelBlock → ℕ → TableFact
+setFact e s l p = cond (nonempty s) (blocksFact e s l p) noTable
+
+-- where a table stands
+abbrev pub labelsFact : TableFact → Labels
+labelsFact noTable = unlabelled
+labelsFact (tableFact p t) = labelled p (tableSize t)
+
+-- the words for the value q in a table
+abbrev pub labelFact : List ℕ → ℤ → TableFact → Try Answer
+labelFact lent q noTable = got (plain lent)
+labelFact lent q (tableFact p t) = wordsFact lent p t (slotFact q t)
+
+-- the words for what is sought in a table
+abbrev pub soughtFact : List ℕ → Key → TableFact → Try Answer
+soughtFact lent nothing t = got (plain lent)
+soughtFact lent (seeks q) t = labelFact lent q t
 
 -- the first record that is of the cell v, x, with the first record at p
 module _ (e : Edition) (v x : ℕ) where
@@ -94,6 +113,10 @@ longFact e p l (reference v x) = cond (eqb v 0 && eqb x 0) (got (long 0 0 0)) (r
 abbrev pub cellFact : Edition → Order → Dataset × Extras → ℕ → ℕ → Says
 cellFact e o w i j =
     cellSays (typeAsked (w .0) i) (cellPlace e (w .0 .varTypes) (startOf (e .tagged) (layoutBy e o w) 9 n-data) i j) (cellAsked (w .0) i j)
+
+-- the label table of variable i
+abbrev pub tableAsked : Edition → Order → Dataset × Extras → ℕ → TableFact
+tableAsked e o w i = setFact e (setAsked (w .0) i) (w .0 .labelBlocks) (startOf (e .tagged) (layoutBy e o w) 11 n-value-labels)
 
 -- where the dataset label stands, and the stamp
 abbrev pub labelPlace : Bool → Edition → ℕ
@@ -121,10 +144,10 @@ factIn e o w (askVarLabel i) =
 factIn e o w (askDate i) = got (mark (isDate (getD (w .0 .displayFormats) (i - 1) [])))
 factIn e o w (askSort i) = got (count (sortPlace i 0 (w .0 .sorted)))
 factIn e o w (askColumn i) = got (column (typeAsked (w .0) i) (offsetIn e (w .0 .varTypes) i) (widthIn e (w .0 .varTypes)))
+factIn e o w (askTable i) = got (labels (labelsFact (tableAsked e o w i)))
 factIn e o w (askCell i j) = got (cell (cellFact e o w i j))
 factIn e o w (askLong i j) = longFact e (startOf (e .tagged) (layoutBy e o w) 10 n-strls) (w .0 .longStrings) (cellFact e o w i j)
-factIn e o w (askWords i j lent) =
-    soughtFact e lent (keyOf (cellFact e o w i j)) (setAsked (w .0) i) (w .0 .labelBlocks) (startOf (e .tagged) (layoutBy e o w) 11 n-value-labels)
+factIn e o w (askWords i j lent) = soughtFact lent (keyOf (cellFact e o w i j)) (tableAsked e o w i)
 
 -- 16 first
 unfoldable pub factOf : Edition → Order → Dataset × Extras → Question → Answer
@@ -191,6 +214,7 @@ bytesIn d (askVarLabel i) = getD (d .variableLabels) (i - 1) []
 bytesIn d (askDate i) = []
 bytesIn d (askSort i) = []
 bytesIn d (askColumn i) = []
+bytesIn d (askTable i) = []
 bytesIn d (askCell i j) = cellBytes (typeAsked d i) (cellAsked d i j)
 bytesIn d (askLong i j) = longBytes (typeAsked d i) (cellAsked d i j) (d .longStrings)
 bytesIn d (askWords i j lent) = wordsBytes lent (keyOf (cellSays (typeAsked d i) 0 (cellAsked d i j))) (setAsked d i) (d .labelBlocks)

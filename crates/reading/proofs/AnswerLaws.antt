@@ -4,7 +4,7 @@ use Prim.Native.Nat.{ℕ, _≤_, _<_}
 use native.Mathlib.Omega.{arith}
 use mathlib.Core.List.{List}
 use mathlib.Core.Bool.{true, false, false≢true}
-use Rattle.format.specs.Number.{Order, orderBy}
+use Rattle.format.specs.Number.{Order, msf, lsf, orderBy}
 use Rattle.format.specs.Edition.{Edition, Release, r113, r114, r117, edition}
 use Rattle.format.specs.Dta.{Layout}
 use Rattle.editions.specs.declared.Edition as Code
@@ -12,7 +12,7 @@ use Rattle.editions.specs.Editions.{numbersOf}
 use Rattle.questions.specs.Readings.{Try, none, got, bind}
 use Rattle.questions.specs.Ask.{Question, refused, releaseIn, orderIn, inRange, answerIn, orRefused, answerOf}
 use Rattle.reading.specs.declared.Opened.{Opened}
-use Rattle.reading.specs.Reads.{openedBy, editionIn}
+use Rattle.reading.specs.Reads.{isMsf, openedBy, editionIn}
 
 -- the widths of an edition that is read
 pub record Widths (e : Code.Edition) : Type 0 where
@@ -103,12 +103,25 @@ widths e x h =
     rec r114 = refl
     rec r117 = refl
 
-module _ (n x : ℕ) (r : Opened) (e : openedBy r ≡ editionIn n x) where
+-- what is opened says what is read
+says-got : (r : Opened) (t : Try (Edition × Order)) → r ≡ openedBy t → r .there ≡ true → t ≡ got (numbersOf (r .e), orderBy (r .msf))
+says-got r none q h = absurd (false≢true (sym (ap (λ (y : Opened). y .there) q) ∙ h))
+says-got r (got y) q h = rw q (ap (λ (o : Order). got (y .0, o)) (sym (order-back (y .1))))
+  where
+    order-back : (o : Order) → orderBy (isMsf o) ≡ o
+    order-back msf = refl
+    order-back lsf = refl
+
+says-none : (r : Opened) (t : Try (Edition × Order)) → r ≡ openedBy t → r .there ≡ false → t ≡ none
+says-none r none q h = refl
+says-none r (got y) q h = absurd (false≢true (sym h ∙ ap (λ (y : Opened). y .there) q))
+
+module _ (n x : ℕ) (r : Opened) (e : r ≡ openedBy (editionIn n x)) where
   pub edition-got : r .there ≡ true → editionIn n x ≡ got (numbersOf (r .e), orderBy (r .msf))
-  edition-got h = sym e ∙ rw h
+  edition-got h = says-got r (editionIn n x) e h
 
   pub edition-none : r .there ≡ false → editionIn n x ≡ none
-  edition-none h = sym e ∙ rw h
+  edition-none h = says-none r (editionIn n x) e h
 
   pub edition-widths : r .there ≡ true → Widths (r .e)
   edition-widths h =
@@ -125,7 +138,7 @@ module _ (f : List ℕ) (l : Layout) (q : Question) where
   unfolding answerOf
   answer-in h = rw h (ap orRefused (then-same (releaseIn (l .release)) (orderIn (l .order)) (λ e o. answerIn e o f l q)))
 
-  module _ (r : Opened) (e : openedBy r ≡ editionIn (l .release) (l .order)) (h : inRange l q ≡ true) where
+  module _ (r : Opened) (e : r ≡ openedBy (editionIn (l .release) (l .order))) (h : inRange l q ≡ true) where
     -- then 17 for an edition or an order that is not read
     pub answer-shut : r .there ≡ false → answerOf f l q ≡ refused 17
     answer-shut k = answer-in h ∙ ap (λ (t : Try (Edition × Order)). orRefused (bind t λ y. answerIn (y .0) (y .1) f l q)) (edition-none (l .release) (l .order) r e k)

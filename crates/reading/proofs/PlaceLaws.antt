@@ -8,7 +8,7 @@ use mathlib.Core.Bool.{Bool, true, false, cond}
 use lib.ListN.{length}
 use Rattle.format.specs.Edition.{opening, closing}
 use Rattle.reading.specs.declared.Read.{Read}
-use Rattle.reading.specs.Reads.{tryOf, placeIn}
+use Rattle.reading.specs.Reads.{readBy, placeIn}
 
 -- field j of a list at s, after the list's first tag
 pub list-place : (t : Bool) (n : List ℕ) (m s g j i w : ℕ) → length (opening true n) ≡ m → g ≡ cond t m 0 → j ≡ i → s + g + j * w ≡ s + length (opening t n) + i * w
@@ -21,8 +21,8 @@ list-start true n m s g w q e = rw (zero-mul w, q, e) (omega arith)
 list-start false n m s g w q e = rw (zero-mul w, e) (omega arith)
 
 -- a width that is another number's name
-pub placed-as : (f : List ℕ) (s j : ℕ) {w v : ℕ} → w ≡ v → (r : Read) → tryOf r ≡ placeIn f (s + j * w) → tryOf r ≡ placeIn f (s + j * v)
-placed-as f s j e r h = h ∙ ap (λ (x : ℕ). placeIn f (s + j * x)) e
+pub placed-as : (f : List ℕ) (s j : ℕ) {w v : ℕ} → w ≡ v → (r : Read) → r ≡ readBy (placeIn f (s + j * w)) → r ≡ readBy (placeIn f (s + j * v))
+placed-as f s j e r h = h ∙ ap (λ (x : ℕ). readBy (placeIn f (s + j * x))) e
 
 -- where a part's content starts
 pub start-is : (t : Bool) (n : List ℕ) (m s a : ℕ) → length (opening true n) ≡ m → a ≡ cond t m 0 → s + a ≡ s + length (opening t n)

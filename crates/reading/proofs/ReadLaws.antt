@@ -10,26 +10,29 @@ use lib.Dec.{eqb, leb, ltb}
 use borrow.Author.Tests.{le-leb, lt-leb, leb-true, leb-false, lt-ltb, le-ltb, ltb-true, eqb-true, eqb-false}
 use Rattle.format.specs.Number.{Order, orderBy, num}
 use Rattle.format.specs.Grammar.{textAt}
-use Rattle.format.specs.Edition.{Edition, edition, r113, r114, r117}
+use Rattle.format.specs.Edition.{Edition, Release, edition, r113, r114, r117}
 use Rattle.format.proofs.Good.{and-left, and-right}
 use Rattle.number.specs.Numbers.{IsNumber}
 use Rattle.text.specs.Texts.{IsTextLength}
 use Rattle.text.proofs.TextLaws.{text-bytes}
-use Rattle.editions.specs.Editions.{releaseBy}
+use Rattle.editions.specs.declared.Edition as Code
+use Rattle.editions.specs.Editions.{numbersOf, editionBy, releaseBy}
 use Rattle.questions.specs.Readings.{Try, none, got, bind, room, numberIn, textNeeds, textIn}
-use Rattle.questions.specs.Ask.{orderIn}
+use Rattle.questions.specs.Ask.{releaseIn, orderIn}
 use Rattle.reading.specs.declared.Read.{Read}
-use Rattle.reading.specs.Reads.{tryOf, noRead, NumberRead, lengthIn, placeIn, isRelease, isOrder, editionIn}
+use Rattle.reading.specs.Reads.{readBy, noRead, NumberRead, lengthIn, placeIn, isRelease, isOrder, isMsf, editionIn, openedBy}
 
 -- ---- what a reading says
 
 -- nothing is read
-pub read-none : (r : Read) (x : Try ℕ) → tryOf r ≡ x → r .there ≡ false → x ≡ none
-read-none r x e h = sym e ∙ rw h
+pub read-none : (r : Read) (x : Try ℕ) → r ≡ readBy x → r .there ≡ false → x ≡ none
+read-none r none e h = refl
+read-none r (got n) e h = absurd (false≢true (sym h ∙ ap (λ (y : Read). y .there) e))
 
 -- its value is read
-pub read-got : (r : Read) (x : Try ℕ) → tryOf r ≡ x → r .there ≡ true → x ≡ got (r .value)
-read-got r x e h = sym e ∙ rw h
+pub read-got : (r : Read) (x : Try ℕ) → r ≡ readBy x → r .there ≡ true → x ≡ got (r .value)
+read-got r none e h = absurd (false≢true (sym (ap (λ (y : Read). y .there) e) ∙ h))
+read-got r (got n) e h = ap got (sym (ap (λ (y : Read). y .value) e))
 
 -- ---- room
 
@@ -55,10 +58,10 @@ module _ (o : Order) (w : ℕ) (f : List ℕ) (p : ℕ) where
 
   -- the answers of the code
   pub none-read : length f < p + w → NumberRead o w f p noRead
-  none-read h = record { is = sym (number-none h); small = power-some 256 w (omega arith) }
+  none-read h = record { is = ap readBy (sym (number-none h)); small = power-some 256 w (omega arith) }
 
   pub number-read : p + w ≤ length f → (n : ℕ) → IsNumber o w f p n → NumberRead o w f p (record { there = true; value = n })
-  number-read h n i = record { is = ap got (i .is) ∙ sym (number-got h); small = i .small }
+  number-read h n i = record { is = ap readBy (ap got (i .is) ∙ sym (number-got h)); small = i .small }
 
 -- ---- texts
 
@@ -141,7 +144,7 @@ module _ (w : ℕ) (f : List ℕ) (p : ℕ) where
 -- ---- where a reading lies
 
 -- a number that is read is the number there, in the file
-pub number-there : (o : Order) (w : ℕ) (f : List ℕ) (p : ℕ) (r : Read) → tryOf r ≡ numberIn o w f p → r .there ≡ true → p + w ≤ length f
+pub number-there : (o : Order) (w : ℕ) (f : List ℕ) (p : ℕ) (r : Read) → r ≡ readBy (numberIn o w f p) → r .there ≡ true → p + w ≤ length f
 number-there o w f p r e h = go (leb (p + w) (length f)) refl
   where
     go : (t : Bool) → leb (p + w) (length f) ≡ t → p + w ≤ length f
@@ -203,7 +206,7 @@ module _ (f : List ℕ) (p : ℕ) where
   pub place-none : length f < p → placeIn f p ≡ none
   place-none h = rw (lt-leb p (length f) h)
 
-  module _ (r : Read) (e : tryOf r ≡ placeIn f p) where
+  module _ (r : Read) (e : r ≡ readBy (placeIn f p)) where
     -- a place that is there is p, and in the file or at its end
     pub place-is : r .there ≡ true → r .value ≡ p
     place-is h = go (leb p (length f)) refl
@@ -237,24 +240,33 @@ module _ (f : List ℕ) (p : ℕ) where
 -- ---- editions
 
 -- the edition and the order of a layout, where both are read
-pub edition-opens : (n x : ℕ) (t : Bool) (e : Edition) → isRelease n ≡ true → t ≡ isOrder x → e ≡ edition (releaseBy n)
-    → cond {A = Try (Edition × Order)} t (got (e, orderBy (eqb x 1))) none ≡ editionIn n x
-edition-opens n x t e h k q = rw (k, q) (go (eqb n 113) refl (eqb n 114) refl (eqb n 117) refl)
+pub edition-opens : (n x : ℕ) → isRelease n ≡ true → isOrder x ≡ true → editionIn n x ≡ got (edition (releaseBy n), orderBy (eqb x 1))
+edition-opens n x h k = go (eqb n 113) refl (eqb n 114) refl (eqb n 117) refl
   where
-    order-is : (a : Edition) → cond {A = Try (Edition × Order)} (isOrder x) (got (a, orderBy (eqb x 1))) none ≡ bind (orderIn x) (λ o. got (a, o))
+    order-is : (a : Edition) → bind {B = Edition × Order} (orderIn x) (λ o. got (a, o)) ≡ got (a, orderBy (eqb x 1))
     order-is a = by (eqb x 1) refl (eqb x 2) refl
       where
-        by : (b : Bool) → eqb x 1 ≡ b → (d : Bool) → eqb x 2 ≡ d → cond {A = Try (Edition × Order)} (isOrder x) (got (a, orderBy (eqb x 1))) none ≡ bind (orderIn x) (λ o. got (a, o))
+        by : (b : Bool) → eqb x 1 ≡ b → (d : Bool) → eqb x 2 ≡ d → bind {B = Edition × Order} (orderIn x) (λ o. got (a, o)) ≡ got (a, orderBy (eqb x 1))
         by true i d j = rw i
         by false i true j = rw (i, j)
-        by false i false j = rw (i, j)
+        by false i false j = absurd (false≢true ((rw (i, j) refl) ∙ k))
 
-    go : (a : Bool) → eqb n 113 ≡ a → (b : Bool) → eqb n 114 ≡ b → (d : Bool) → eqb n 117 ≡ d
-        → cond {A = Try (Edition × Order)} (isOrder x) (got (edition (releaseBy n), orderBy (eqb x 1))) none ≡ editionIn n x
+    go : (a : Bool) → eqb n 113 ≡ a → (b : Bool) → eqb n 114 ≡ b → (d : Bool) → eqb n 117 ≡ d → editionIn n x ≡ got (edition (releaseBy n), orderBy (eqb x 1))
     go true i b j d y = rw i (order-is (edition r113))
     go false i true j d y = rw (i, j) (order-is (edition r114))
     go false i false j true y = rw (i, j, y) (order-is (edition r117))
     go false i false j false y = absurd (false≢true ((rw (i, j, y) refl) ∙ h))
+
+-- .. as the code has them
+pub opened-is : (n x : ℕ) → isRelease n ≡ true → isOrder x ≡ true → (e : Code.Edition) → numbersOf e ≡ edition (releaseBy n)
+    → record { there = true; msf = eqb x 1; e = e } ≡ openedBy (editionIn n x)
+opened-is n x h k e q =
+    let y : editionBy (edition (releaseBy n)) ≡ e = ap editionBy (sym q) in
+    rw (edition-opens n x h k, order-back (eqb x 1)) (ap (λ (d : Code.Edition). record { there = true; msf = eqb x 1; e = d }) (sym y))
+  where
+    order-back : (b : Bool) → isMsf (orderBy b) ≡ b
+    order-back true = refl
+    order-back false = refl
 
 pub edition-shut : (n x : ℕ) → isRelease n ≡ false → editionIn n x ≡ none
 edition-shut n x h = go (eqb n 113) refl (eqb n 114) refl (eqb n 117) refl
@@ -264,6 +276,15 @@ edition-shut n x h = go (eqb n 113) refl (eqb n 114) refl (eqb n 117) refl
     go false i true j d y = absurd (false≢true (sym h ∙ rw (i, j)))
     go false i false j true y = absurd (false≢true (sym h ∙ rw (i, j, y)))
     go false i false j false y = rw (i, j, y)
+
+pub order-shut : (n x : ℕ) → isOrder x ≡ false → editionIn n x ≡ none
+order-shut n x h = by (eqb x 1) refl (eqb x 2) refl (releaseIn n)
+  where
+    by : (b : Bool) → eqb x 1 ≡ b → (d : Bool) → eqb x 2 ≡ d → (r : Try Release) → bind {B = Edition × Order} r (λ r. bind {B = Edition × Order} (orderIn x) λ o. got (edition r, o)) ≡ none
+    by true i d j r = absurd (false≢true (sym h ∙ rw i))
+    by false i true j r = absurd (false≢true (sym h ∙ rw (i, j)))
+    by false i false j none = refl
+    by false i false j (got r) = rw (i, j)
 
 -- an edition that is read has a small number
 pub release-small : (n : ℕ) → isRelease n ≡ true → n < 256

@@ -6,7 +6,7 @@ ghost use lib.ListN.{length};
 ghost use lib.Dec.{leb, ltb};
 ghost use Rattle.format.specs.Number.{orderBy};
 ghost use Rattle.questions.specs.Ask.{among};
-ghost use Rattle.reading.specs.Reads.{tryOf, noRead, NumberRead, lengthIn, placeIn, isRelease, isOrder, openedBy, editionIn};
+ghost use Rattle.reading.specs.Reads.{readBy, noRead, NumberRead, lengthIn, placeIn, isRelease, isOrder, notOpened, openedBy, editionIn};
 
 // What a reading says: a number, where all that it needs is in the file.
 pub struct Read {
@@ -48,7 +48,7 @@ pub fn number_in(f: &[u8], p: u64, w: usize, msf: bool) -> Read
 
 // The length of the text in the field of `w` bytes at `p`: only its bytes up to and with its first zero, or its whole width, are needed.
 pub fn text_in(f: &[u8], p: u64, w: usize) -> Read
-    ensures { λ r. ⌜ tryOf r ≡ lengthIn w (now (f .entry)) p ⌝ }
+    ensures { λ r. ⌜ r ≡ readBy (lengthIn w (now (f .entry)) p) ⌝ }
 {
     let q = p as usize;
     if f.len() < q {
@@ -98,7 +98,7 @@ fn product_within(n: u64, index: u64, width: u64) -> bool
 
 // The place `start + gap + index * width`, where it is not past the end of the file.
 pub fn place_in(f: &[u8], start: u64, gap: u64, index: u64, width: u64) -> Read
-    ensures { λ r. ⌜ tryOf r ≡ placeIn (now (f .entry)) (start + gap + index * width) ⌝ }
+    ensures { λ r. ⌜ r ≡ readBy (placeIn (now (f .entry)) (start + gap + index * width)) ⌝ }
 {
     let n = f.len() as u64;
     if n < start {
@@ -140,21 +140,43 @@ fn is_order(order: u64) -> bool
     }
 }
 
-// The edition `number` and the byte order `order` of a layout, where both are read.
-pub fn edition_in(number: u64, order: u64) -> Opened
-    ensures { λ r. ⌜ openedBy r ≡ editionIn number order ⌝ }
+// No edition: zeros.
+fn not_opened() -> Opened
+    ensures { λ r. ⌜ r ≡ notOpened ⌝ }
 {
-    if is_release(number) {
-        return Opened {
-            there: is_order(order),
-            msf: order == 1,
-            e: editions::numbers_of(number as u8),
-        };
-    }
     Opened {
         there: false,
         msf: false,
-        e: editions::numbers_of(117),
+        e: Edition {
+            number: 0,
+            tagged: false,
+            n_width: 0,
+            label_max: 0,
+            label_length: 0,
+            name_width: 0,
+            format_width: 0,
+            var_label_width: 0,
+            v_width: 0,
+            o_width: 0,
+            record_width: 0,
+        },
+    }
+}
+
+// The edition `number` and the byte order `order` of a layout, where both are read; else zeros.
+pub fn edition_in(number: u64, order: u64) -> Opened
+    ensures { λ r. ⌜ r ≡ openedBy (editionIn number order) ⌝ }
+{
+    if !is_release(number) {
+        return not_opened();
+    }
+    if !is_order(order) {
+        return not_opened();
+    }
+    Opened {
+        there: true,
+        msf: order == 1,
+        e: editions::numbers_of(number as u8),
     }
 }
 

@@ -1,4 +1,3 @@
 pub mod EntryLaws
-pub mod EndLaws
 pub mod SetLaws
 pub mod SetsAt

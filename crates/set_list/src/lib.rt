@@ -2,19 +2,18 @@
 use long_list::Listed;
 ghost use mathlib.Core.List.{[], _∷_};
 ghost use mathlib.Core.Path.{_≡_};
-ghost use Prim.Native.Nat.{_+_, _-_, _*_, _≤_};
+ghost use Prim.Native.Nat.{_+_, _*_, _≤_};
 ghost use lib.ListN.{length};
 ghost use Rattle.format.specs.Number.{orderBy, num};
 ghost use Rattle.format.specs.Grammar.{textAt};
 ghost use Rattle.format.specs.Labels.{Table, block};
-ghost use Rattle.text.specs.Texts.{IsTextLength};
 ghost use Rattle.writing.specs.Writes.{Puts};
 ghost use Rattle.write_tables.specs.Tables.{TableRoom};
 ghost use Rattle.long_list.specs.Lists.{Lists};
 ghost use Rattle.long_list.specs.Told.{ToldRoom, ToldCount, ToldPut};
 ghost use Rattle.set_list.specs.Sets.{entriesTo, setNumbers, setsFrom, setsOf};
 ghost use Rattle.set_list.specs.Reads.{entryRead, PutsOf, BlockHere, ReadsBlock};
-ghost use Rattle.set_list.specs.Ends.{EndsBy, Ends};
+ghost use Rattle.text_ends.specs.Ends.{Ends};
 
 // Where a label block's name and table stand, how many entries and text bytes the table has, and where the next block stands.
 struct Block {
@@ -23,49 +22,6 @@ struct Block {
     entries: usize,
     chars: usize,
     next: usize,
-}
-
-// ---- where texts end: many entries may name one long text, so its end is looked for once
-
-// Where the text from `y` on ends, of the text area at `a`: before `z`, or where that from `z` on does, at `e`.
-fn end_from(f: &[u8], a: usize, y: usize, z: usize, e: usize) -> usize
-    requires { ⌜ (y ≤ z) × (a + z ≤ length (now f)) ⌝ }
-    ensures { λ r. ⌜ EndsBy (now (f .entry)) a y z e r ⌝ }
-{
-    let n = text::text_len(f, a + y, z - y);
-    if n < z - y {
-        return y + n;
-    }
-    e
-}
-
-// For each place of the text area of `x` bytes at `a` that is a multiple of 256, where the text from there on ends. At most 5,308,416 / 256 + 1 places.
-fn fill_ends(t: &mut [u32; 20737], f: &[u8], a: usize, x: usize)
-    requires { ⌜ (a + x ≤ length (now f)) × (x ≤ 5308416) × (length (now t) ≡ 20737) ⌝ }
-    ensures { λ _. ⌜ Ends (now (f .entry)) a x 0 (now (t .exit)) ⌝ }
-{
-    let mut b = x / 256 + 1;
-    let mut y = x;
-    let mut e = x;
-    while 0 < b {
-        b -= 1;
-        e = end_from(f, a, b * 256, y, e);
-        y = b * 256;
-        t[b] = e as u32;
-    }
-}
-
-// The length of the text from `y` on: at most 256 bytes are read.
-fn length_from(f: &[u8], t: &[u32; 20737], a: usize, x: usize, y: usize) -> usize
-    requires { ⌜ (Ends (now f) a x 0 (now t)) × (a + x ≤ length (now f)) × (x ≤ 5308416) × (y ≤ x) ⌝ }
-    ensures { λ r. ⌜ IsTextLength (x - y) (now (f .entry)) (a + y) r ⌝ }
-{
-    let b = y / 256 + 1;
-    let z = b * 256;
-    if x < z {
-        return text::text_len(f, a + y, x - y);
-    }
-    end_from(f, a, y, z, t[b] as usize) - y
 }
 
 // ---- entries
@@ -96,7 +52,7 @@ fn put_entry(
 {
     let value = number::number(f, v, 4, msf);
     let y = number::number(f, p, 4, msf) as usize;
-    let k = length_from(f, t, a, x, y);
+    let k = text_ends::length_from(f, t, a, x, y);
     put_three(out, value, (a + y) as u64, k as u64);
 }
 
@@ -116,7 +72,7 @@ fn put_entries(
     let o = p + 8;
     let v = o + n * 4;
     let a = v + n * 4;
-    fill_ends(t, f, a, x);
+    text_ends::fill_ends(t, f, a, x);
     let mut m: usize = 0;
     while m < n {
         put_entry(&mut out[m * 3..], f, t, v + m * 4, o + m * 4, a, x, msf);
@@ -214,7 +170,7 @@ fn put_sets(
 }
 
 // The label sets of a file in file order: for each, place and length of its name and how many entries it has, and then for each entry its value,
-// as 32 bits, and place and length of its text. Where `out` has no room for all of them it is left as it came.
+// as 32 bits, and place and length of its text. An `out` with no room for all of them is left as it came (14).
 pub fn set_list(f: &[u8], out: &mut [u64]) -> Listed
     ensures { λ r. ⌜ Lists (now (f .entry)) (setsOf (now (f .entry))) (now (out .entry)) (now (out .exit)) r ⌝ }
 {
@@ -230,7 +186,7 @@ pub fn set_list(f: &[u8], out: &mut [u64]) -> Listed
     let n = sets_count(f, s.blocks, s.blocksend, e.tagged, e.name_width, o.msf);
     if out.len() < n {
         return Listed {
-            code: 0,
+            code: 14,
             count: n as u64,
         };
     }

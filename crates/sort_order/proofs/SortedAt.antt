@@ -49,7 +49,7 @@ module _ {f : List ℕ} {o : Order} {n p m : ℕ} (S : SortedAt f o n p) (c : m 
   are : readTimes (number o 2) m f p ≡ sortedOf f
   are = ap (λ (k : ℕ). readTimes (number o 2) k f p) c ∙ ended-first o f n p .are ∙ S .reads
 
-  pub sorted-short : {d : List ℕ} → length d < m → Lists f (sortedOf f) d d (record { code = 0; count = m })
+  pub sorted-short : {d : List ℕ} → length d < m → Lists f (sortedOf f) d d (record { code = 14; count = m })
   sorted-short h = lists-short (S .accepted) refl count (omega (arith, count))
 
   pub sorted-done : {d w : List ℕ} → m ≤ length d → Puts (readTimes (number o 2) m f p) d w m → Lists f (sortedOf f) d w (record { code = 0; count = m })

@@ -38,7 +38,7 @@ fn put_numbers(out: &mut [u64], f: &[u8], p: usize, n: usize, msf: bool)
     }
 }
 
-// The numbers of the variables by which a file is sorted, in that order. Where `out` has no room for all of them it is left as it came.
+// The numbers of the variables by which a file is sorted, in that order. An `out` with no room for all of them is left as it came (14).
 pub fn sort_order(f: &[u8], out: &mut [u64]) -> Listed
     ensures { λ r. ⌜ Lists (now (f .entry)) (sortedOf (now (f .entry))) (now (out .entry)) (now (out .exit)) r ⌝ }
 {
@@ -51,9 +51,13 @@ pub fn sort_order(f: &[u8], out: &mut [u64]) -> Listed
     }
     let s = x.source;
     let n = sort_count(f, s.sort, s.k + 1, x.msf);
-    if n <= out.len() {
-        put_numbers(&mut out[..], f, s.sort, n, x.msf);
+    if out.len() < n {
+        return Listed {
+            code: 14,
+            count: n as u64,
+        };
     }
+    put_numbers(&mut out[..], f, s.sort, n, x.msf);
     Listed {
         code: 0,
         count: n as u64,

@@ -1,12 +1,11 @@
 -- Where the dataset label and the stamp of an accepted file stand, by the answers to the questions for them; and the places of its layout.
 use mathlib.Core.Path.{_≡_, refl, sym, ap, _∙_, subst}
-use Prim.Native.Nat.{ℕ, zero, suc, _+_, _≤_, _<_}
+use Prim.Native.Nat.{ℕ, zero, suc, _+_, _-_, _≤_, _<_}
 use native.Mathlib.Nat.{zero-add}
 use native.Mathlib.Omega.{arith}
 use mathlib.Core.List.{List, [], _∷_}
 use mathlib.Core.Bool.{Bool, true, false, cond}
 use lib.ListN.{length, getD, take, drop}
-use lib.Dec.{eqb}
 use Rattle.format.specs.Slot.{Bytes}
 use Rattle.format.specs.Number.{Order, msf, lsf, orderBy}
 use Rattle.format.specs.Grammar.{Sect, tag, between}
@@ -21,22 +20,15 @@ use Rattle.format.proofs.PartLaws.{total, size-total, place-is}
 use Rattle.format.specs.Dead.{contentAt}
 use Rattle.checking.specs.declared.Layout.{Layout}
 use Rattle.checking.specs.Checks.{layoutBy}
-use Rattle.questions.specs.Ask.{Question, Answer, part, refused, slice, shown, answerOf, askLabel, askStamp}
+use Rattle.questions.specs.Ask.{Question, part, slice, shown, answerOf, askLabel, askStamp}
 use Rattle.questions.specs.Fact.{labelPlace, stampPlace, factOf, bytesOf}
 use Rattle.questions.proofs.Theorems.{own-answer, own-bytes}
 use Rattle.answers.specs.declared.Part.{Part}
-use Rattle.answers.specs.Answers.{Tells, partBy, noPart}
+use Rattle.answers.specs.Answers.{partBy}
 use Rattle.editions.specs.declared.Edition as Code
-use Rattle.sources.specs.Sources.{Own, Opened, PartOf}
+use Rattle.sources.specs.declared.Source.{Source}
+use Rattle.sources.specs.Sources.{Own, Opened, PartOf, Sourced, sourceOf}
 use Rattle.sources.proofs.SourceLaws.{right, fit, place-11, place-12, longs-size}
-
--- an answer that is a part says its place and its length
-pub told-part : (a : Part) (p n : ℕ) → partBy a ≡ part p n → (a .at ≡ p) × (a .len ≡ n)
-told-part a p n h = go (eqb (a .code) 0) h
-  where
-    go : (t : Bool) → cond t (part (a .at) (a .len)) (refused (a .code)) ≡ part p n → (a .at ≡ p) × (a .len ≡ n)
-    go true q = (cc q, cc q)
-    go false q = (cc q, cc q)
 
 -- no position is past the sum of the sizes
 sums-below : (p : ℕ) (l : List ℕ) (j : ℕ) → getD (sums p l) j 0 ≤ p + total l
@@ -65,24 +57,35 @@ module _ (f : List ℕ) (u : Bytes f) (l : Layout) (own : Own f l) where
   by-own : (q : Question) → answerOf f (layoutBy l) q ≡ factOf (editionOf f) (orderOf f) (contents f) q
   by-own q = ap (λ (x : Format.Layout). answerOf f x q) (own .layout) ∙ own-answer f u (own .accepted) q
 
-  part-of : (a : Part) (p : ℕ) (t : List ℕ) → (a .at ≡ p) × (a .len ≡ length t) → slice f p (length t) ≡ t → p + length t ≤ length f → PartOf f (a .at) (a .len) t
-  part-of a p t w b c = record { is = rw (w .0, w .1) b; long = w .1; inside = omega (arith, w .0, w .1) }
+  part-of : (a : Part) (p : ℕ) (t : List ℕ) → a ≡ partBy (part p (length t)) → slice f p (length t) ≡ t → p + length t ≤ length f → PartOf f (a .at) (a .len) t
+  part-of a p t w b c =
+      let x : a .at ≡ p = ap (λ (y : Part). y .at) w in
+      let y : a .len ≡ length t = ap (λ (y : Part). y .len) w in
+      record { is = rw (x, y) b; long = y; inside = omega (arith, x, y) }
 
-  pub label-part : (a : Part) → Tells partBy noPart (answerOf f (layoutBy l) askLabel) a → PartOf f (a .at) (a .len) (datasetOf f .label)
+  -- the label's part
+  pub label-told : (a : Part) → a ≡ partBy (answerOf f (layoutBy l) askLabel) → a ≡ partBy (part (labelPlace (editionOf f .tagged) (editionOf f)) (length (datasetOf f .label)))
+  unfolding factOf
+  label-told a h = h ∙ ap partBy (by-own askLabel)
+
+  pub label-part : (a : Part) → a ≡ partBy (answerOf f (layoutBy l) askLabel) → PartOf f (a .at) (a .len) (datasetOf f .label)
   unfolding factOf bytesOf
   label-part a h =
       let t = editionOf f .tagged in
-      let w = told-part a (labelPlace t (editionOf f)) (length (datasetOf f .label)) (h .is ∙ by-own askLabel) in
-      part-of a (labelPlace t (editionOf f)) (datasetOf f .label) w
+      part-of a (labelPlace t (editionOf f)) (datasetOf f .label) (label-told a h)
       (sym (ap (shown f) (own-answer f u (own .accepted) askLabel)) ∙ own-bytes f u (own .accepted) askLabel)
       (omega (arith, label-in t (editionOf f) (orderOf f) (datasetOf f) (right f u (own .accepted) .head), head-inside))
 
-  pub stamp-part : (a : Part) → Tells partBy noPart (answerOf f (layoutBy l) askStamp) a → PartOf f (a .at) (a .len) (datasetOf f .stamp)
+  -- the stamp's
+  pub stamp-told : (a : Part) → a ≡ partBy (answerOf f (layoutBy l) askStamp) → a ≡ partBy (part (stampPlace (editionOf f .tagged) (editionOf f) (datasetOf f)) (length (datasetOf f .stamp)))
+  unfolding factOf
+  stamp-told a h = h ∙ ap partBy (by-own askStamp)
+
+  pub stamp-part : (a : Part) → a ≡ partBy (answerOf f (layoutBy l) askStamp) → PartOf f (a .at) (a .len) (datasetOf f .stamp)
   unfolding factOf bytesOf
   stamp-part a h =
       let t = editionOf f .tagged in
-      let w = told-part a (stampPlace t (editionOf f) (datasetOf f)) (length (datasetOf f .stamp)) (h .is ∙ by-own askStamp) in
-      part-of a (stampPlace t (editionOf f) (datasetOf f)) (datasetOf f .stamp) w
+      part-of a (stampPlace t (editionOf f) (datasetOf f)) (datasetOf f .stamp) (stamp-told a h)
       (sym (ap (shown f) (own-answer f u (own .accepted) askStamp)) ∙ own-bytes f u (own .accepted) askStamp)
       (omega (arith, stamp-in t (editionOf f) (orderOf f) (datasetOf f) (right f u (own .accepted) .head), head-inside))
 
@@ -147,3 +150,28 @@ module _ (f : List ℕ) (u : Bytes f) (l : Layout) (own : Own f l) (e : Code.Edi
 
   pub n-own : l .n ≡ datasetOf f .n
   n-own = ap (λ (x : Format.Layout). x .rows) layout-is-own
+
+-- the struct is decided
+pub sourced-is : (f : List ℕ) (s : Source) → Sourced f s → s ≡ sourceOf f
+sourced-is f s h =
+    let x : s .longsend ≡ getD (layoutOf f .places) 11 0 - length (closing (editionOf f .tagged) n-strls) = omega (arith, h .longs-end) in
+    let y : s .blocksend ≡ getD (layoutOf f .places) 12 0 - length (closing (editionOf f .tagged) n-value-labels) = omega (arith, h .blocks-end) in
+    λ i. record {
+      k = h .variables i;
+      n = h .observations i;
+      types = h .types i;
+      names = h .names i;
+      sort = h .sort i;
+      formats = h .formats i;
+      sets = h .sets i;
+      labels = h .labels i;
+      rows = h .rows i;
+      longs = h .longs i;
+      longsend = x i;
+      blocks = h .blocks i;
+      blocksend = y i;
+      lat = h .label-place i;
+      llen = h .label .long i;
+      sat = h .stamp-place i;
+      slen = h .stamp .long i;
+    }

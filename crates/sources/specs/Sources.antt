@@ -1,6 +1,6 @@
 -- An accepted file, as a writer takes it: its edition and byte order, K, N, and where the contents of its parts stand.
 use mathlib.Core.Path.{_≡_}
-use Prim.Native.Nat.{ℕ, _+_, _≤_}
+use Prim.Native.Nat.{ℕ, _+_, _-_, _≤_}
 use mathlib.Core.List.{List}
 use mathlib.Core.Bool.{Bool, true}
 use lib.ListN.{length, getD, take, drop}
@@ -8,6 +8,7 @@ use Rattle.format.specs.Number.{Order, orderBy}
 use Rattle.format.specs.Edition.{Release, edition, closing, n-variable-types, n-varnames, n-sortlist, n-formats, n-value-label-names, n-variable-labels, n-data, n-strls, n-value-labels}
 use Rattle.format.specs.Dta.{verdict, editionOf, orderOf, datasetOf, layoutOf, holds}
 use Rattle.format.specs.Dead.{contentAt}
+use Rattle.questions.specs.Fact.{labelPlace, stampPlace}
 use Rattle.editions.specs.Editions.{numbersOf}
 use Rattle.editions.specs.declared.Edition.{Edition}
 use Rattle.checking.specs.declared.Layout.{Layout}
@@ -46,8 +47,33 @@ pub record Sourced (f : List ℕ) (s : Source) : Type 0 where
   pub longs-end : s .longsend + length (closing (editionOf f .tagged) n-strls) ≡ getD (layoutOf f .places) 11 0
   pub blocks : s .blocks ≡ contentAt f 11 n-value-labels
   pub blocks-end : s .blocksend + length (closing (editionOf f .tagged) n-value-labels) ≡ getD (layoutOf f .places) 12 0
+  pub label-place : s .lat ≡ labelPlace (editionOf f .tagged) (editionOf f)
   pub label : PartOf f (s .lat) (s .llen) (datasetOf f .label)
+  pub stamp-place : s .sat ≡ stampPlace (editionOf f .tagged) (editionOf f) (datasetOf f)
   pub stamp : PartOf f (s .sat) (s .slen) (datasetOf f .stamp)
+
+-- what s is then, as one struct
+abbrev pub sourceOf : List ℕ → Source
+sourceOf f =
+    record {
+      k = datasetOf f .k;
+      n = datasetOf f .n;
+      types = contentAt f 2 n-variable-types;
+      names = contentAt f 3 n-varnames;
+      sort = contentAt f 4 n-sortlist;
+      formats = contentAt f 5 n-formats;
+      sets = contentAt f 6 n-value-label-names;
+      labels = contentAt f 7 n-variable-labels;
+      rows = contentAt f 9 n-data;
+      longs = contentAt f 10 n-strls;
+      longsend = getD (layoutOf f .places) 11 0 - length (closing (editionOf f .tagged) n-strls);
+      blocks = contentAt f 11 n-value-labels;
+      blocksend = getD (layoutOf f .places) 12 0 - length (closing (editionOf f .tagged) n-value-labels);
+      lat = labelPlace (editionOf f .tagged) (editionOf f);
+      llen = length (datasetOf f .label);
+      sat = stampPlace (editionOf f .tagged) (editionOf f) (datasetOf f);
+      slen = length (datasetOf f .stamp);
+    }
 
 -- to has the numbers of an edition that is read
 pub record Known (to : Edition) : Type 0 where

@@ -1,3 +1,1 @@
 pub mod DateLaws
-pub mod ShownLaws
-pub mod SameLaws

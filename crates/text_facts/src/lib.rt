@@ -3,7 +3,7 @@ use checking::Layout;
 ghost use mathlib.Core.Path.{_≡_};
 ghost use Rattle.questions.specs.Ask.{answerOf, isDate, askName, askFormat, askSet, askVarLabel, askDate};
 ghost use Rattle.checking.specs.Checks.{layoutBy};
-ghost use Rattle.answers.specs.Answers.{Tells, partBy, noPart};
+ghost use Rattle.answers.specs.Answers.{partBy};
 ghost use Rattle.text_facts.specs.Marks.{markBy, noMark};
 
 // Yes or no; or a refusal by its number, else 0.
@@ -20,7 +20,7 @@ fn no_mark(code: u8) -> Mark
 
 // The name of variable `i`.
 pub fn name(f: &[u8], l: Layout, i: u64) -> Part
-    ensures { λ r. ⌜ Tells partBy noPart (answerOf (now (f .entry)) (layoutBy l) (askName i)) r ⌝ }
+    ensures { λ r. ⌜ r ≡ partBy (answerOf (now (f .entry)) (layoutBy l) (askName i)) ⌝ }
 {
     let o = reading::edition_in(l.edition, l.order);
     let c = answers::refusal(reading::is_among(i, l.k), o.there);
@@ -36,7 +36,7 @@ pub fn name(f: &[u8], l: Layout, i: u64) -> Part
 
 // The display format of variable `i`.
 pub fn format(f: &[u8], l: Layout, i: u64) -> Part
-    ensures { λ r. ⌜ Tells partBy noPart (answerOf (now (f .entry)) (layoutBy l) (askFormat i)) r ⌝ }
+    ensures { λ r. ⌜ r ≡ partBy (answerOf (now (f .entry)) (layoutBy l) (askFormat i)) ⌝ }
 {
     let o = reading::edition_in(l.edition, l.order);
     let c = answers::refusal(reading::is_among(i, l.k), o.there);
@@ -52,7 +52,7 @@ pub fn format(f: &[u8], l: Layout, i: u64) -> Part
 
 // The label-set name of variable `i`.
 pub fn set_name(f: &[u8], l: Layout, i: u64) -> Part
-    ensures { λ r. ⌜ Tells partBy noPart (answerOf (now (f .entry)) (layoutBy l) (askSet i)) r ⌝ }
+    ensures { λ r. ⌜ r ≡ partBy (answerOf (now (f .entry)) (layoutBy l) (askSet i)) ⌝ }
 {
     let o = reading::edition_in(l.edition, l.order);
     let c = answers::refusal(reading::is_among(i, l.k), o.there);
@@ -68,7 +68,7 @@ pub fn set_name(f: &[u8], l: Layout, i: u64) -> Part
 
 // The variable label of variable `i`.
 pub fn var_label(f: &[u8], l: Layout, i: u64) -> Part
-    ensures { λ r. ⌜ Tells partBy noPart (answerOf (now (f .entry)) (layoutBy l) (askVarLabel i)) r ⌝ }
+    ensures { λ r. ⌜ r ≡ partBy (answerOf (now (f .entry)) (layoutBy l) (askVarLabel i)) ⌝ }
 {
     let o = reading::edition_in(l.edition, l.order);
     let c = answers::refusal(reading::is_among(i, l.k), o.there);
@@ -94,7 +94,7 @@ fn is_date(t: &[u8]) -> bool
 
 // Whether variable `i` is a date variable.
 pub fn date_mark(f: &[u8], l: Layout, i: u64) -> Mark
-    ensures { λ r. ⌜ Tells markBy noMark (answerOf (now (f .entry)) (layoutBy l) (askDate i)) r ⌝ }
+    ensures { λ r. ⌜ r ≡ markBy (answerOf (now (f .entry)) (layoutBy l) (askDate i)) ⌝ }
 {
     let p = format(f, l, i);
     if p.code != 0 {

@@ -13,7 +13,7 @@ use Rattle.format.specs.Number.{Order}
 use Rattle.questions.specs.Readings.{Try, none, got, bind, numberIn}
 use Rattle.questions.specs.Ask.{Answer, count, sortIn}
 use Rattle.reading.specs.declared.Read.{Read}
-use Rattle.reading.specs.Reads.{tryOf, NumberRead, placeIn}
+use Rattle.reading.specs.Reads.{readBy, NumberRead, placeIn}
 use Rattle.reading.proofs.ReadLaws.{read-got, read-none, number-nowhere, number-there}
 
 -- a number as an answer
@@ -21,7 +21,7 @@ abbrev pub numberTold : Try ℕ → Try Answer
 numberTold x = bind x λ n. got (count n)
 
 -- the list starts past the end of the file
-pub sort-past : (o : Order) (f : List ℕ) (i k p : ℕ) (a : Read) → tryOf a ≡ placeIn f p → a .there ≡ false → sortIn o f i (suc k) 0 p ≡ none
+pub sort-past : (o : Order) (f : List ℕ) (i k p : ℕ) (a : Read) → a ≡ readBy (placeIn f p) → a .there ≡ false → sortIn o f i (suc k) 0 p ≡ none
 sort-past o f i k p a A h = rw (number-nowhere f p a A o 2 h)
 
 module _ (o : Order) (f : List ℕ) (i k start : ℕ) where

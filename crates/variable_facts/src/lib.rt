@@ -9,8 +9,8 @@ ghost use Rattle.format.specs.Edition.{codeWidth};
 ghost use Rattle.questions.specs.Readings.{bind, got};
 ghost use Rattle.questions.specs.Ask.{answerOf, orRefused, count, typed, typeIn, sortIn, askType, askSort};
 ghost use Rattle.checking.specs.Checks.{layoutBy};
-ghost use Rattle.answers.specs.Answers.{Tells, numberBy, noNumber};
-ghost use Rattle.variable_facts.specs.Types.{TellsType, noType};
+ghost use Rattle.answers.specs.Answers.{numberBy};
+ghost use Rattle.variable_facts.specs.Types.{typedBy, noType};
 
 // A type: the kind of a variable's cells, and how many bytes each has; or a refusal by its number, else 0.
 pub struct Typed {
@@ -38,7 +38,7 @@ fn code_width(tagged: bool) -> usize
 
 // The type whose code is entry `index`, counted from 0, of the list at `start`, after a tag of `gap` bytes.
 fn type_field(f: &[u8], start: u64, gap: u64, index: u64, tagged: bool, msf: bool) -> Typed
-    ensures { λ r. ⌜ TellsType (orRefused (bind (typeIn tagged (orderBy msf) (now (f .entry)) (start + gap + index * codeWidth tagged)) λ t. got (typed t))) r ⌝ }
+    ensures { λ r. ⌜ r ≡ typedBy (orRefused (bind (typeIn tagged (orderBy msf) (now (f .entry)) (start + gap + index * codeWidth tagged)) λ t. got (typed t))) ⌝ }
 {
     let w = code_width(tagged);
     let p = reading::place_in(f, start, gap, index, w as u64);
@@ -64,7 +64,7 @@ fn type_field(f: &[u8], start: u64, gap: u64, index: u64, tagged: bool, msf: boo
 
 // The type of variable `i`.
 pub fn var_type(f: &[u8], l: Layout, i: u64) -> Typed
-    ensures { λ r. ⌜ TellsType (answerOf (now (f .entry)) (layoutBy l) (askType i)) r ⌝ }
+    ensures { λ r. ⌜ r ≡ typedBy (answerOf (now (f .entry)) (layoutBy l) (askType i)) ⌝ }
 {
     let o = reading::edition_in(l.edition, l.order);
     let c = answers::refusal(reading::is_among(i, l.k), o.there);
@@ -84,7 +84,7 @@ pub fn var_type(f: &[u8], l: Layout, i: u64) -> Typed
 // Which of `k` + 1 sort entries from `start` on is the first that is `i`, counted from 1, before the first zero; 0 if none is.
 fn sort_find(f: &[u8], start: u64, i: u64, k: u64, msf: bool) -> Number
     requires { ⌜ start ≤ length (now f) ⌝ }
-    ensures { λ r. ⌜ Tells numberBy noNumber (orRefused (bind (sortIn (orderBy msf) (now (f .entry)) i (suc k) 0 start) λ x. got (count x))) r ⌝ }
+    ensures { λ r. ⌜ r ≡ numberBy (orRefused (bind (sortIn (orderBy msf) (now (f .entry)) i (suc k) 0 start) λ x. got (count x))) ⌝ }
 {
     let mut x: u64 = 0;
     let mut p = start;
@@ -110,7 +110,7 @@ fn sort_find(f: &[u8], start: u64, i: u64, k: u64, msf: bool) -> Number
 
 // The first sort place of variable `i`, counted from 1; 0 where it has none.
 pub fn sort_place(f: &[u8], l: Layout, i: u64) -> Number
-    ensures { λ r. ⌜ Tells numberBy noNumber (answerOf (now (f .entry)) (layoutBy l) (askSort i)) r ⌝ }
+    ensures { λ r. ⌜ r ≡ numberBy (answerOf (now (f .entry)) (layoutBy l) (askSort i)) ⌝ }
 {
     let o = reading::edition_in(l.edition, l.order);
     let c = answers::refusal(reading::is_among(i, l.k), o.there);

@@ -10,20 +10,19 @@ use native.Mathlib.Nat.{add-sub-cancel-left}
 use lib.Dec.{eqb}
 use lib.IntN.{ℤ}
 use borrow.Author.Tests.{le-leb, lt-leb, lt-ltb, le-ltb, eq-eqb, ne-eqb, eqb-true, eqb-false}
-use Rattle.format.specs.Number.{Order, orderBy}
+use Rattle.format.specs.Number.{Order}
 use Rattle.format.specs.Grammar.{textAt, sameAt}
 use Rattle.format.specs.Dta.{sameList}
 use Rattle.questions.specs.Readings.{Try, none, got, bind, numberIn, textIn}
-use Rattle.questions.specs.Ask.{Answer, refused, plain, orRefused, slice, tableIn, blockIn, blocksIn}
+use Rattle.questions.specs.Ask.{Labels, unlabelled, labelled, Answer, refused, labels, plain, orRefused, slice, sizedIn, blockIn, blocksIn}
 use Rattle.reading.specs.declared.Read.{Read}
-use Rattle.reading.specs.Reads.{tryOf, lengthIn}
+use Rattle.reading.specs.Reads.{readBy, lengthIn}
 use Rattle.reading.proofs.ReadLaws.{read-none, read-got}
 use Rattle.walks.specs.declared.Block.{Block}
 use Rattle.walks.specs.declared.LabelSet.{LabelSet}
-use Rattle.walks.specs.declared.Words.{Words}
-use Rattle.walks.specs.Answers.{noWords, Worded}
-use Rattle.walks.specs.Walks.{tableWords, openSize, closeSize, nameAt, tableAt, noBlock, BlockGot, IsBlock, sameName, blockWords, noSet, setSays, IsSet}
-use Rattle.walks.proofs.TableLaws.{worded-plain, worded-same}
+use Rattle.walks.specs.Answers.{noSet, tableBy, setBy}
+use Rattle.walks.specs.Walks.{tablePlace, setPlace, openSize, closeSize, nameAt, tableAt, isSized, noBlock, BlockGot, IsBlock, sameName, blockLabels}
+use Rattle.walks.proofs.TableLaws.{sized-got, sized-none}
 use Rattle.walks.proofs.TextLaws.{text-none, text-got}
 
 -- ---- one block
@@ -44,20 +43,33 @@ module _ (t : Bool) (w : ℕ) (o : Order) (f : List ℕ) (z p : ℕ) where
       block-past b = rw (le-leb (tableAt t w p) z h, k, lt-leb (tableAt t w p + n + closeSize t) z b)
 
       module _ (b : tableAt t w p + n + closeSize t ≤ z) where
-        named : (x : Try (List ℕ)) → textIn w f (nameAt t p) ≡ x → blockIn t w o f z p ≡ bind x λ s. got (n, s)
-        named x e = rw (le-leb (tableAt t w p) z h, k, le-leb (tableAt t w p + n + closeSize t) z b, e)
+        -- what is read after the table's length
+        after : (x : Try (List ℕ)) (y : Try (Unit {0})) → textIn w f (nameAt t p) ≡ x → sizedIn o f n (tableAt t w p) ≡ y
+            → blockIn t w o f z p ≡ bind x λ s. bind y λ u. got (n, s)
+        after x y e d = rw (le-leb (tableAt t w p) z h, k, le-leb (tableAt t w p + n + closeSize t) z b, e, d)
 
-        block-got : (m : ℕ) → lengthIn w f (nameAt t p) ≡ got m → BlockGot t w o f z p n m
-        block-got m e =
-            let g = text-got w f (nameAt t p) m e in
-            record { is = named (got (textAt w f (nameAt t p))) (g .is); name = g .long; fits = b; inside = g .inside }
+        pub block-unsized : isSized o f n (tableAt t w p) ≡ false → blockIn t w o f z p ≡ none
+        block-unsized d = go (textIn w f (nameAt t p)) refl
+          where
+            go : (x : Try (List ℕ)) → textIn w f (nameAt t p) ≡ x → blockIn t w o f z p ≡ none
+            go none e = after none none e (sized-none o f n (tableAt t w p) d)
+            go (got s) e = after (got s) none e (sized-none o f n (tableAt t w p) d)
 
-        pub is-block : (r : Read) → tryOf r ≡ lengthIn w f (nameAt t p) → IsBlock t w o f z p (record { there = r .there; table = n; name = r .value })
-        is-block r e =
-            record {
-              gone = λ q. named none (text-none w f (nameAt t p) (read-none r (lengthIn w f (nameAt t p)) e q));
-              whole = λ q. block-got (r .value) (read-got r (lengthIn w f (nameAt t p)) e q);
-            }
+        module _ (d : isSized o f n (tableAt t w p) ≡ true) where
+          named : (x : Try (List ℕ)) → textIn w f (nameAt t p) ≡ x → blockIn t w o f z p ≡ bind x λ s. got (n, s)
+          named x e = after x (got tt) e (sized-got o f n (tableAt t w p) d)
+
+          block-got : (m : ℕ) → lengthIn w f (nameAt t p) ≡ got m → BlockGot t w o f z p n m
+          block-got m e =
+              let g = text-got w f (nameAt t p) m e in
+              record { is = named (got (textAt w f (nameAt t p))) (g .is); name = g .long; fits = b; inside = g .inside }
+
+          pub is-block : (r : Read) → r ≡ readBy (lengthIn w f (nameAt t p)) → IsBlock t w o f z p (record { there = r .there; table = n; name = r .value })
+          is-block r e =
+              record {
+                gone = λ q. named none (text-none w f (nameAt t p) (read-none r (lengthIn w f (nameAt t p)) e q));
+                whole = λ q. block-got (r .value) (read-got r (lengthIn w f (nameAt t p)) e q);
+              }
 
 -- ---- names
 
@@ -105,78 +117,60 @@ module _ (f : List ℕ) (p n a m : ℕ) where
   unfolding sameName
   name-is w e h = same-name-is w f p n (slice f a m) m e (sym (length-take-le m (drop a f) (simp length-drop (omega arith))))
 
--- ---- a set without a table
-
-module _ (f : List ℕ) (a : ℤ → List ℕ → Answer) (r : LabelSet) where
-  pub refused-set : r ≡ noSet 17 → ((q : ℤ) (t : List ℕ) → a q t ≡ refused 17) → IsSet f a r
-  refused-set e h = subst (IsSet f a) (sym e) λ q t. sym (h q t)
-
-  pub plain-set : r ≡ noSet 0 → ((q : ℤ) (t : List ℕ) → a q t ≡ plain t) → IsSet f a r
-  plain-set e h = subst (IsSet f a) (sym e) λ q t. sym (h q t)
-
 -- ---- the walk
 
 -- a loop that looks for the block from `start` on has come to p
 pub record Come (t : Bool) (w : ℕ) (o : Order) (f s : List ℕ) (z start p : ℕ) : Type 0 where
   pub turns : ℕ
   pub enough : length f < p + suc turns
-  pub rest : (q : ℤ) (lent : List ℕ) → blockWords t w o f s q z start lent ≡ orRefused (blocksIn t w o f lent q s z (suc turns) p)
+  pub rest : blockLabels t w o f s z start ≡ orRefused (bind (blocksIn t w o f s z (suc turns) p) λ x. got (labels x))
 
-module _ (t : Bool) (w : ℕ) (m : Bool) (f s : List ℕ) (z start : ℕ) where
-  abbrev o : Order
-  o = orderBy m
+module _ (t : Bool) (w : ℕ) (o : Order) (f s : List ℕ) (z start : ℕ) where
+  abbrev as-answer : Try Labels → Answer
+  as-answer r = orRefused (bind r λ x. got (labels x))
 
-  abbrev sought : ℤ → List ℕ → Answer
-  sought q = blockWords t w o f s q z start
+  pub starts : Come t w o f s z start start
+  unfolding blockLabels
+  starts = record { turns = length f; enough = omega arith; rest = refl }
 
-  pub starts : Come t w (orderBy m) f s z start start
-  unfolding blockWords
-  starts = record { turns = length f; enough = omega arith; rest = λ q lent. refl }
-
-  module _ (p : ℕ) (c : Come t w (orderBy m) f s z start p) where
-    pub come-plain : z ≤ p → (r : LabelSet) → r ≡ noSet 0 → IsSet f sought r
-    come-plain h r e = plain-set f sought r e λ q lent. c .rest q lent ∙ (rw (le-ltb p z h))
+  module _ (p : ℕ) (c : Come t w o f s z start p) where
+    pub come-plain : z ≤ p → (r : LabelSet) → r ≡ noSet 0 → r ≡ setBy (blockLabels t w o f s z start)
+    come-plain h r e =
+        let s : blockLabels t w o f s z start ≡ labels unlabelled = c .rest ∙ (rw (le-ltb p z h)) in
+        e ∙ sym (ap setBy s)
 
     module _ (h : p < z) where
-      pub come-gone : blockIn t w (orderBy m) f z p ≡ none → (r : LabelSet) → r ≡ noSet 17 → IsSet f sought r
-      come-gone b r e = refused-set f sought r e λ q lent. c .rest q lent ∙ (rw (lt-ltb p z h, b))
+      pub come-gone : blockIn t w o f z p ≡ none → (r : LabelSet) → r ≡ noSet 17 → r ≡ setBy (blockLabels t w o f s z start)
+      come-gone b r e =
+          let s : blockLabels t w o f s z start ≡ refused 17 = c .rest ∙ (rw (lt-ltb p z h, b)) in
+          e ∙ sym (ap setBy s)
 
-      module _ (n k : ℕ) (g : BlockGot t w (orderBy m) f z p n k) where
-        step : (k : ℕ) (q : ℤ) (lent : List ℕ) → blocksIn t w o f lent q s z (suc k) p
-            ≡ cond (sameList (textAt w f (nameAt t p)) s) (tableIn o f lent q n (tableAt t w p)) (blocksIn t w o f lent q s z k (tableAt t w p + n + closeSize t))
-        step k q lent = rw (lt-ltb p z h, g .is)
+      module _ (n k : ℕ) (g : BlockGot t w o f z p n k) where
+        step : (k : ℕ) (b : Bool) → b ≡ sameList (textAt w f (nameAt t p)) s → blocksIn t w o f s z (suc k) p
+            ≡ cond b (got (labelled (tableAt t w p) n)) (blocksIn t w o f s z k (tableAt t w p + n + closeSize t))
+        step k b e = rw (lt-ltb p z h, g .is, sym e)
 
         pub come-here : true ≡ sameList (textAt w f (nameAt t p)) s → (a : ℕ) → a ≡ tableAt t w p
-            → IsSet f sought (record { code = 0; found = true; at = a; len = n; msf = m })
-        unfolding tableWords
-        come-here e a A q lent =
-            sym
-            (c .rest q lent ∙ ap orRefused (step (c .turns) q lent)
-            ∙ ap (λ (b : Bool). orRefused (cond b (tableIn o f lent q n (tableAt t w p)) (blocksIn t w o f lent q s z (c .turns) (tableAt t w p + n + closeSize t)))) (sym e)
-            ∙ ap (λ (x : ℕ). orRefused (tableIn o f lent q n x)) (sym A))
+            → record { code = 0; found = true; at = a; len = n } ≡ setBy (blockLabels t w o f s z start)
+        come-here e a A = ap (λ (x : ℕ). tableBy (labelled x n)) A ∙ sym (ap setBy (c .rest ∙ ap as-answer (step (c .turns) true e)))
 
-        pub come-on : false ≡ sameList (textAt w f (nameAt t p)) s → Come t w (orderBy m) f s z start (tableAt t w p + n + closeSize t)
+        pub come-on : false ≡ sameList (textAt w f (nameAt t p)) s → Come t w o f s z start (tableAt t w p + n + closeSize t)
         come-on e = go (c .turns) (c .enough) (c .rest)
           where
-            go : (k : ℕ) → length f < p + suc k → ((q : ℤ) (lent : List ℕ) → blockWords t w o f s q z start lent ≡ orRefused (blocksIn t w o f lent q s z (suc k) p))
+            go : (k : ℕ) → length f < p + suc k → blockLabels t w o f s z start ≡ as-answer (blocksIn t w o f s z (suc k) p)
                 → Come t w o f s z start (tableAt t w p + n + closeSize t)
             go zero b r = absurd (omega (arith, g .inside))
-            go (suc k) b r =
-                record {
-                  turns = k;
-                  enough = omega (arith, g .inside);
-                  rest = λ q lent. r q lent ∙ ap orRefused (step (suc k) q lent) ∙ ap (λ (b : Bool). orRefused (cond b (tableIn o f lent q n (tableAt t w p)) (blocksIn t w o f lent q s z (suc k) (tableAt t w p + n + closeSize t)))) (sym e);
-                }
+            go (suc k) b r = record { turns = k; enough = omega (arith, g .inside); rest = r ∙ ap as-answer (step (suc k) false e) }
 
 -- ---- a set that was found
 
-module _ (f : List ℕ) (s : LabelSet) (q : ℤ) where
-  pub set-refused : (s .code ≡ 0 → ⊥) → (r : Words) → r ≡ noWords (s .code) → Worded (setSays f s q) r
-  set-refused z r e = subst (Worded (setSays f s q)) (sym e) (record { is = λ t. rw (ne-eqb (s .code) 0 z); alone = λ k. refl })
+module _ (o : Order) (f : List ℕ) (s : LabelSet) (q : ℤ) where
+  pub set-refused : (s .code ≡ 0 → ⊥) → setPlace o f s q ≡ refused (s .code)
+  set-refused z = rw (ne-eqb (s .code) 0 z)
 
   module _ (c : s .code ≡ 0) where
-    pub set-plain : s .found ≡ false → (r : Words) → r ≡ noWords 0 → Worded (setSays f s q) r
-    set-plain h r e = worded-plain (setSays f s q) r e λ t. rw (eq-eqb (s .code) 0 c, h)
+    pub set-plain : s .found ≡ false → setPlace o f s q ≡ plain []
+    set-plain h = rw (eq-eqb (s .code) 0 c, h)
 
-    pub set-table : s .found ≡ true → (r : Words) → Worded (tableWords (orderBy (s .msf)) f (s .at) (s .len) q) r → Worded (setSays f s q) r
-    set-table h r W = worded-same (tableWords (orderBy (s .msf)) f (s .at) (s .len) q) (setSays f s q) r (λ t. rw (eq-eqb (s .code) 0 c, h)) W
+    pub set-table : s .found ≡ true → setPlace o f s q ≡ tablePlace o f (s .at) q
+    set-table h = rw (eq-eqb (s .code) 0 c, h)

@@ -11,7 +11,7 @@ use Rattle.format.specs.Number.{Order, num}
 use Rattle.questions.specs.Readings.{Try, none, got, bind, test, room, numberIn}
 use Rattle.questions.specs.Ask.{Answer, long, orRefused, recordHead, recordsIn}
 use Rattle.walks.specs.declared.Long.{Long}
-use Rattle.walks.specs.Answers.{noLong, Longs}
+use Rattle.walks.specs.Answers.{noLong, longBy}
 use Rattle.walks.specs.Walks.{variableAt, rowAt, kindAt, lengthAt, recordEnd, recordSize, IsSize, isOf, longAt, recordsFrom}
 use Rattle.reading.proofs.ReadLaws.{room-got, room-none, number-got, number-none}
 
@@ -153,21 +153,21 @@ module _ (w : ℕ) (o : Order) (f : List ℕ) (v x z start : ℕ) where
         go (past a e) = absurd (h e)
         go (out a e) = absurd (h e)
 
-    pub come-none : n ≡ 0 → Longs (orRefused (recordsFrom w o f v x z start)) (noLong 17)
-    come-none h = record { is = sym (ap orRefused (c .rest ∙ go sizes)); alone = λ e. refl }
+    pub come-none : n ≡ 0 → noLong 17 ≡ longBy (orRefused (recordsFrom w o f v x z start))
+    come-none h = ap longBy (sym (ap orRefused (c .rest ∙ go sizes)))
       where
         go : Sized w o f z p n → recordsIn w o f v x z (suc (c .turns)) p ≡ none
         go (whole a b e) = absurd (omega arith)
         go (past a e) = walk-past w o f v x z (c .turns) p a
         go (out a e) = walk-out w o f v x z (c .turns) p a
 
-    pub come-here : (n ≡ 0 → ⊥) → true ≡ isOf w o f v x p → Longs (orRefused (recordsFrom w o f v x z start)) (longAt w o f p n)
+    pub come-here : (n ≡ 0 → ⊥) → true ≡ isOf w o f v x p → longAt w o f p n ≡ longBy (orRefused (recordsFrom w o f v x z start))
     come-here h t = go sizes
       where
-        go : Sized w o f z p n → Longs (orRefused (recordsFrom w o f v x z start)) (longAt w o f p n)
+        go : Sized w o f z p n → longAt w o f p n ≡ longBy (orRefused (recordsFrom w o f v x z start))
         go (whole a b e) =
             let i : n - recordHead w ≡ lengthAt w o f p = omega arith in
-            record { is = sym (ap orRefused (c .rest ∙ walk-here w o f v x z (c .turns) p a b t) ∙ (rw (sym i))); alone = λ q. absurd (q refl) }
+            rw i (ap longBy (sym (ap orRefused (c .rest ∙ walk-here w o f v x z (c .turns) p a b t))))
         go (past a e) = absurd (h e)
         go (out a e) = absurd (h e)
 

@@ -1,47 +1,32 @@
 -- Label words in a table.
 use mathlib.Core.Path.{_≡_, refl, sym, ap, _∙_, subst}
 use Prim.Native.Nat.{ℕ, zero, suc, _+_, _-_, _*_, _/_, _≤_, _<_}
-use native.Mathlib.Nat.{zero-add}
 use native.Mathlib.Omega.{arith}
-use mathlib.Core.List.{List}
-use mathlib.Core.Bool.{Bool, true, false, cond}
+use mathlib.Core.List.{List, []}
+use mathlib.Core.Bool.{Bool, true, false, false≢true}
 use lib.ListN.{length, getD, take, drop, length-drop}
 use lib.Seq.{getD-drop, take-length}
 use lib.Dec.{eqb, leb, ltb}
 use lib.IntN.{ℤ}
 use lib.Signed.{ltZ}
-use borrow.Author.Tests.{le-leb, lt-leb, leb-true, leb-false, lt-ltb, le-ltb, ltb-true, ltb-false, eq-eqb, ne-eqb}
+use borrow.Author.Tests.{le-leb, lt-leb, leb-true, leb-false, lt-ltb, le-ltb, ltb-true}
 use Rattle.format.specs.Number.{Order, num, seat}
-use Rattle.format.specs.Grammar.{textAt}
 use Rattle.format.specs.Cells.{signedBy}
-use Rattle.format.specs.Search.{Slot, found, missing, lost, Searched, oneMore, sameZ, halve, valueAt, searchAt}
+use Rattle.format.specs.Search.{Slot, found, missing, lost, Searched, sameZ, halve, valueAt, searchAt}
 use Rattle.format.proofs.NumberLaws.{val-same}
 use Rattle.format.proofs.SearchLaws.{middle}
-use Rattle.questions.specs.Readings.{Try, none, got, bind, test, room, numberIn, textIn}
-use Rattle.questions.specs.Ask.{Answer, refused, part, plain, orRefused, entryIn, slotIn, tableIn}
-use Rattle.reading.specs.Reads.{lengthIn}
-use Rattle.reading.proofs.ReadLaws.{number-got, number-none, text-past}
+use Rattle.questions.specs.Readings.{Try, none, got, test, numberIn}
+use Rattle.questions.specs.Ask.{Answer, refused, part, plain, sizedIn}
+use Rattle.reading.proofs.ReadLaws.{number-got, place-got, place-none}
 use Rattle.walks.specs.declared.Words.{Words}
-use Rattle.walks.specs.Answers.{wordsOf, noWords, Worded}
-use Rattle.walks.specs.Walks.{entryWords, slotWords, tableWords}
-use Rattle.walks.proofs.TextLaws.{TextGot, text-none, text-got}
+use Rattle.walks.specs.Answers.{wordsBy}
+use Rattle.walks.specs.Walks.{entryPlace, slotPlace, tablePlace, isGot, isSized}
 
 -- ---- answers
 
-pub worded-none : (a : List ℕ → Answer) (r : Words) → r ≡ noWords 17 → ((t : List ℕ) → a t ≡ refused 17) → Worded a r
-worded-none a r e h = subst (λ (y : Words). Worded a y) (sym e) (record { is = λ t. sym (h t); alone = λ q. refl })
-
-pub worded-plain : (a : List ℕ → Answer) (r : Words) → r ≡ noWords 0 → ((t : List ℕ) → a t ≡ plain t) → Worded a r
-worded-plain a r e h = subst (λ (y : Words). Worded a y) (sym e) (record { is = λ t. sym (h t); alone = λ q. refl })
-
-pub worded-part : (a : List ℕ → Answer) (p n : ℕ) → ((t : List ℕ) → a t ≡ part p n) → Worded a (record { code = 0; found = true; at = p; len = n })
-worded-part a p n h = record { is = λ t. sym (h t); alone = λ q. absurd (no q) }
-  where
-    no : true ≡ false → ⊥
-    no q = subst (λ (b : Bool). cond b (Unit {0}) ⊥) q tt
-
-pub worded-same : (a b : List ℕ → Answer) (r : Words) → ((t : List ℕ) → b t ≡ a t) → Worded a r → Worded b r
-worded-same a b r h w = record { is = λ t. w .is t ∙ sym (h t); alone = w .alone }
+-- words that an answer gives, and another that is the same
+pub words-as : (r : Words) (a b : Answer) → r ≡ wordsBy a → b ≡ a → r ≡ wordsBy b
+words-as r a b e h = e ∙ ap wordsBy (sym h)
 
 -- ---- the words at a slot
 
@@ -52,30 +37,18 @@ module _ (o : Order) (f : List ℕ) (p n x m : ℕ) (inside : p + 8 + m * 4 + 4 
   offset : numberIn o 4 f (p + 8 + m * 4) ≡ got y
   offset = number-got o 4 f (p + 8 + m * 4) inside ∙ ap got (sym e)
 
-  pub entry-over : x ≤ y → (t : List ℕ) → entryWords o f p n x m t ≡ refused 17
-  unfolding entryWords
-  entry-over h t = rw (offset, le-ltb y x h)
+  pub entry-over : x ≤ y → entryPlace o f p n x m ≡ refused 17
+  unfolding entryPlace
+  entry-over h = rw (offset, le-ltb y x h)
 
   module _ (h : y < x) where
-    pub entry-past : length f < p + 8 + n * 4 + y + n * 4 → (t : List ℕ) → entryWords o f p n x m t ≡ refused 17
-    unfolding entryWords
-    entry-past k t = rw (offset, lt-ltb y x h, text-past (x - y) f at (omega arith))
+    pub entry-past : length f < p + 8 + n * 4 + y + n * 4 → entryPlace o f p n x m ≡ refused 17
+    unfolding entryPlace
+    entry-past k = rw (offset, lt-ltb y x h, place-none f at (omega arith))
 
-    pub entry-none : lengthIn (x - y) f at ≡ none → (t : List ℕ) → entryWords o f p n x m t ≡ refused 17
-    unfolding entryWords
-    entry-none k t = rw (offset, lt-ltb y x h, text-none (x - y) f at k)
-
-    module _ (l : ℕ) (k : lengthIn (x - y) f at ≡ got l) where
-      abbrev g : TextGot (x - y) f at l
-      g = text-got (x - y) f at l k
-
-      pub entry-endless : x - y ≤ l → (t : List ℕ) → entryWords o f p n x m t ≡ refused 17
-      unfolding entryWords
-      entry-endless b t = rw (offset, lt-ltb y x h, g .is, sym (g .long), le-ltb l (x - y) b)
-
-      pub entry-got : l < x - y → (t : List ℕ) → entryWords o f p n x m t ≡ part at l
-      unfolding entryWords
-      entry-got b t = rw (offset, lt-ltb y x h, g .is, sym (g .long), lt-ltb l (x - y) b)
+    pub entry-got : p + 8 + n * 4 + y + n * 4 ≤ length f → entryPlace o f p n x m ≡ part at (x - y)
+    unfolding entryPlace
+    entry-got k = rw (offset, lt-ltb y x h, place-got f at (omega arith))
 
 -- ---- the search in the rest of the file
 
@@ -151,52 +124,72 @@ module _ (o : Order) (f : List ℕ) (p n x : ℕ) (q : ℤ) where
   abbrev slot : Slot
   slot = searchAt o f (p + 8 + n * 4) (length f) n q .slot
 
-  pub slot-found : (m : ℕ) → found m ≡ slot → (t : List ℕ) → slotWords o f p n x q t ≡ entryWords o f p n x m t
-  unfolding slotWords entryWords
-  slot-found m e t = rw (sym e)
+  pub slot-found : (m : ℕ) → found m ≡ slot → slotPlace o f p n x q ≡ entryPlace o f p n x m
+  unfolding slotPlace
+  slot-found m e = rw (sym e)
 
-  pub slot-missing : missing ≡ slot → (t : List ℕ) → slotWords o f p n x q t ≡ plain t
-  unfolding slotWords
-  slot-missing e t = rw (sym e)
+  pub slot-missing : missing ≡ slot → slotPlace o f p n x q ≡ plain []
+  unfolding slotPlace
+  slot-missing e = rw (sym e)
 
-  pub slot-lost : lost ≡ slot → (t : List ℕ) → slotWords o f p n x q t ≡ refused 17
-  unfolding slotWords
-  slot-lost e t = rw (sym e)
+  pub slot-lost : lost ≡ slot → slotPlace o f p n x q ≡ refused 17
+  unfolding slotPlace
+  slot-lost e = rw (sym e)
 
-module _ (o : Order) (f : List ℕ) (p w : ℕ) (q : ℤ) where
-  pub table-no-count : numberIn o 4 f p ≡ none → (t : List ℕ) → tableWords o f p w q t ≡ refused 17
-  unfolding tableWords
-  table-no-count h t = go (leb 8 w) refl
-    where
-      go : (b : Bool) → leb 8 w ≡ b → orRefused (tableIn o f t q w p) ≡ refused 17
-      go true e = rw (e, h)
-      go false e = rw e
+module _ (o : Order) (f : List ℕ) (p : ℕ) (q : ℤ) where
+  pub table-no-count : numberIn o 4 f p ≡ none → tablePlace o f p q ≡ refused 17
+  unfolding tablePlace
+  table-no-count h = rw h
 
   module _ (n : ℕ) (a : numberIn o 4 f p ≡ got n) where
-    pub table-no-size : numberIn o 4 f (p + 4) ≡ none → (t : List ℕ) → tableWords o f p w q t ≡ refused 17
-    unfolding tableWords
-    table-no-size h t = go (leb 8 w) refl
-      where
-        go : (b : Bool) → leb 8 w ≡ b → orRefused (tableIn o f t q w p) ≡ refused 17
-        go true e = rw (e, a, h)
-        go false e = rw e
+    pub table-no-size : numberIn o 4 f (p + 4) ≡ none → tablePlace o f p q ≡ refused 17
+    unfolding tablePlace
+    table-no-size h = rw (a, h)
 
     module _ (x : ℕ) (b : numberIn o 4 f (p + 4) ≡ got x) where
-      pub table-wrong : (w ≡ 8 + (8 * n + x) → ⊥) → (t : List ℕ) → tableWords o f p w q t ≡ refused 17
-      unfolding tableWords
-      table-wrong h t = go (leb 8 w) refl
-        where
-          go : (b : Bool) → leb 8 w ≡ b → orRefused (tableIn o f t q w p) ≡ refused 17
-          go true e = rw (e, a, b, ne-eqb w (8 + (8 * n + x)) h)
-          go false e = rw e
+      pub table-is : tablePlace o f p q ≡ slotPlace o f p n x q
+      unfolding tablePlace
+      table-is = rw (a, b)
 
-      module _ (h : w ≡ 8 + (8 * n + x)) where
-        pub table-is : (t : List ℕ) → tableWords o f p w q t ≡ slotWords o f p n x q t
-        unfolding tableWords slotWords
-        table-is t = rw (le-leb 8 w (omega arith), a, b, eq-eqb w (8 + (8 * n + x)) h)
+      pub table-past : p + 8 ≤ length f → length f < p + 8 + n * 4 → tablePlace o f p q ≡ refused 17
+      table-past g k = table-is ∙ slot-lost o f p n x q (sym (lost-all o f (p + 8 + n * 4) n q k (omega arith)))
 
-        pub table-past : p + 8 ≤ length f → length f < p + 8 + n * 4 → (t : List ℕ) → tableWords o f p w q t ≡ refused 17
-        table-past g k t = table-is t ∙ slot-lost o f p n x q (sym (lost-all o f (p + 8 + n * 4) n q k (omega arith))) t
+-- ---- a table as long as it says
+
+module _ (o : Order) (f : List ℕ) (w p : ℕ) where
+  pub sized-no-count : numberIn o 4 f p ≡ none → false ≡ isSized o f w p
+  unfolding isSized
+  sized-no-count h = rw h
+
+  module _ (n : ℕ) (a : numberIn o 4 f p ≡ got n) where
+    pub sized-no-size : numberIn o 4 f (p + 4) ≡ none → false ≡ isSized o f w p
+    unfolding isSized
+    sized-no-size h = rw (a, h)
+
+    pub sized-is : (x : ℕ) → numberIn o 4 f (p + 4) ≡ got x → eqb w (8 + (8 * n + x)) ≡ isSized o f w p
+    unfolding isSized
+    sized-is x b = rw (a, b) (by (eqb w (8 + (8 * n + x))))
+      where
+        by : (b : Bool) → b ≡ isGot (test b)
+        by true = refl
+        by false = refl
+
+  -- what was read of it
+  pub sized-got : isSized o f w p ≡ true → sizedIn o f w p ≡ got tt
+  unfolding isSized
+  sized-got h = go (sizedIn o f w p) refl h
+    where
+      go : (r : Try (Unit {0})) → sizedIn o f w p ≡ r → isGot r ≡ true → sizedIn o f w p ≡ got tt
+      go none e k = absurd (false≢true k)
+      go (got tt) e k = e
+
+  pub sized-none : isSized o f w p ≡ false → sizedIn o f w p ≡ none
+  unfolding isSized
+  sized-none h = go (sizedIn o f w p) refl h
+    where
+      go : (r : Try (Unit {0})) → sizedIn o f w p ≡ r → isGot r ≡ false → sizedIn o f w p ≡ none
+      go none e k = e
+      go (got u) e k = absurd (false≢true (sym k))
 
 -- where the search in the rest of the file ends
 pub search-tail : (o : Order) (f : List ℕ) (v a n : ℕ) (q : ℤ) → v ≡ a → v ≤ length f → (s : Slot)

@@ -1,39 +1,69 @@
 -- The answers about a cell, as code has them.
-use mathlib.Core.Path.{_≡_}
 use Prim.Native.Nat.{ℕ}
-use mathlib.Core.Bool.{cond, false}
-use mathlib.Core.List.{List}
-use lib.Dec.{eqb}
-use Rattle.questions.specs.Ask.{Answer, refused, part, plain, long}
+use mathlib.Core.Bool.{true, false}
+use Rattle.questions.specs.Ask.{Labels, unlabelled, labelled, Answer, refused, count, mark, typed, part, column, labels, cell, plain, long}
 use Rattle.walks.specs.declared.Long.{Long}
+use Rattle.walks.specs.declared.LabelSet.{LabelSet}
 use Rattle.walks.specs.declared.Words.{Words}
 
 -- ---- a long string
 
--- the answer that a long string is: a refusal by its number, or kind, place and length
-abbrev pub longOf : Long → Answer
-longOf r = cond (eqb (r .code) 0) (long (r .kind) (r .at) (r .len)) (refused (r .code))
-
--- a refusal: its number alone
+-- a refusal: its number alone; with 0, no record is meant
 abbrev pub noLong : ℕ → Long
 noLong c = record { code = c; kind = 0; at = 0; len = 0 }
 
--- r is the answer a, and with a refusal all else is 0
-pub record Longs (a : Answer) (r : Long) : Type 0 where
-  pub is : longOf r ≡ a
-  pub alone : (r .code ≡ 0 → ⊥) → r ≡ noLong (r .code)
+-- the long string of an answer
+abbrev pub longBy : Answer → Long
+longBy (refused c) = noLong c
+longBy (count n) = noLong 17
+longBy (mark b) = noLong 17
+longBy (typed t) = noLong 17
+longBy (part p n) = noLong 17
+longBy (column t p n) = noLong 17
+longBy (labels s) = noLong 17
+longBy (cell s) = noLong 17
+longBy (plain t) = noLong 17
+longBy (long k p n) = record { code = 0; kind = k; at = p; len = n }
 
 -- ---- label words
-
--- the answer that label words are, with a lent plain text: a refusal by its number, a part of the file, or the plain text
-abbrev pub wordsOf : List ℕ → Words → Answer
-wordsOf lent r = cond (eqb (r .code) 0) (cond (r .found) (part (r .at) (r .len)) (plain lent)) (refused (r .code))
 
 -- a refusal, or 0 and the plain text: place and length are 0
 abbrev pub noWords : ℕ → Words
 noWords c = record { code = c; found = false; at = 0; len = 0 }
 
--- r is the answer a for every lent text, and where no label is found all else is 0
-pub record Worded (a : List ℕ → Answer) (r : Words) : Type 0 where
-  pub is : (lent : List ℕ) → wordsOf lent r ≡ a lent
-  pub alone : r .found ≡ false → r ≡ noWords (r .code)
+-- the label words of an answer: a part of the file, the plain text, or the refusal
+abbrev pub wordsBy : Answer → Words
+wordsBy (refused c) = noWords c
+wordsBy (count n) = noWords 17
+wordsBy (mark b) = noWords 17
+wordsBy (typed t) = noWords 17
+wordsBy (part p n) = record { code = 0; found = true; at = p; len = n }
+wordsBy (column t p n) = noWords 17
+wordsBy (labels s) = noWords 17
+wordsBy (cell s) = noWords 17
+wordsBy (plain t) = noWords 0
+wordsBy (long k p n) = noWords 17
+
+-- ---- label sets
+
+-- a refusal, or 0 and a set without labels
+abbrev pub noSet : ℕ → LabelSet
+noSet c = record { code = c; found = false; at = 0; len = 0 }
+
+-- the set with a label table, or without
+abbrev pub tableBy : Labels → LabelSet
+tableBy unlabelled = noSet 0
+tableBy (labelled p n) = record { code = 0; found = true; at = p; len = n }
+
+-- the label set of an answer
+abbrev pub setBy : Answer → LabelSet
+setBy (refused c) = noSet c
+setBy (count n) = noSet 17
+setBy (mark b) = noSet 17
+setBy (typed t) = noSet 17
+setBy (part p n) = noSet 17
+setBy (column t p n) = noSet 17
+setBy (labels s) = tableBy s
+setBy (cell s) = noSet 17
+setBy (plain t) = noSet 17
+setBy (long k p n) = noSet 17

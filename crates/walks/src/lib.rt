@@ -4,9 +4,8 @@ ghost use Prim.Native.Nat.{ℕ, _+_, _*_, _<_, _≤_};
 ghost use lib.ListN.{length};
 ghost use Rattle.format.specs.Number.{orderBy};
 ghost use Rattle.questions.specs.Ask.{orRefused, slice};
-ghost use lib.IntN.{ℤ};
-ghost use Rattle.walks.specs.Answers.{noLong, Longs, noWords, Worded};
-ghost use Rattle.walks.specs.Walks.{IsSize, isOf, longAt, recordsFrom, entryWords, slotWords, tableWords, openSize, closeSize, noBlock, IsBlock, sameName, blockWords, noSet, setSays, IsSet};
+ghost use Rattle.walks.specs.Answers.{noLong, longBy, noWords, wordsBy, noSet, setBy};
+ghost use Rattle.walks.specs.Walks.{IsSize, isOf, longAt, recordsFrom, entryPlace, slotPlace, tablePlace, setPlace, endedBy, openSize, closeSize, isSized, noBlock, IsBlock, sameName, blockLabels};
 
 // A long string: the refusal number; where it is 0, kind, place and length of the contents.
 pub struct Long {
@@ -24,16 +23,15 @@ pub struct Words {
     pub len: u64,
 }
 
-// A label set: the refusal number; where it is 0, whether it has a table, and its place, length and byte order.
+// A label set: the refusal number; where it is 0, whether it has a table, and its place and length.
 pub struct LabelSet {
     pub code: u8,
     pub found: bool,
     pub at: u64,
     pub len: u64,
-    pub msf: bool,
 }
 
-// A label block: whether it lies whole in its part; then the lengths of its table and its name.
+// A label block: whether it lies whole in its part, with a table as long as it says; then the lengths of its table and its name.
 pub struct Block {
     pub there: bool,
     pub table: u64,
@@ -102,7 +100,7 @@ fn long_at(f: &[u8], p: usize, n: usize, w: usize, msf: bool) -> Long
 // The first record from `start` on, in a part that ends at `end`, that is of the cell (`v`, `o`).
 pub fn records(f: &[u8], start: usize, end: u64, v: u64, o: u64, w: usize, msf: bool) -> Long
     requires { ⌜ (start ≤ length (now f)) × (w ≤ 8) ⌝ }
-    ensures { λ r. ⌜ Longs (orRefused (recordsFrom w (orderBy msf) (now (f .entry)) v o end start)) r ⌝ }
+    ensures { λ r. ⌜ r ≡ longBy (orRefused (recordsFrom w (orderBy msf) (now (f .entry)) v o end start)) ⌝ }
 {
     let mut p = start;
     let mut n = record_size(f, p, end, w, msf);
@@ -128,52 +126,44 @@ pub fn no_words(code: u8) -> Words
     }
 }
 
-// The words at slot `m` of the table at `p` with `n` entries and `x` text bytes.
-fn entry(f: &[u8], p: u64, n: u64, x: u64, m: u64, msf: bool) -> Words
-    requires { ⌜ (p + 8 + n * 4 ≤ length (now f)) × (m < n) × (x < 4294967296) ⌝ }
-    ensures { λ r. ⌜ Worded (entryWords (orderBy msf) (now (f .entry)) p n x m) r ⌝ }
+// Where the words at slot `m` of the table at `p` with `n` entries and `x` text bytes stand, and how many text bytes are left from there on.
+fn entry_place(f: &[u8], p: u64, n: u64, x: u64, m: u64, msf: bool) -> Words
+    requires { ⌜ (p + 8 + n * 4 ≤ length (now f)) × (m < n) ⌝ }
+    ensures { λ r. ⌜ r ≡ wordsBy (entryPlace (orderBy msf) (now (f .entry)) p n x m) ⌝ }
 {
     let y = number::number(f, (p + 8 + m * 4) as usize, 4, msf);
     if x <= y {
         return no_words(17);
     }
-    let left = x - y;
     let a = reading::place_in(f, p + 8 + n * 4, y, n, 4);
     if !a.there {
-        return no_words(17);
-    }
-    let t = reading::text_in(f, a.value, left as usize);
-    if !t.there {
-        return no_words(17);
-    }
-    if left <= t.value {
         return no_words(17);
     }
     Words {
         code: 0,
         found: true,
         at: a.value,
-        len: t.value,
+        len: x - y,
     }
 }
 
-// The words for the value `q` in the table at `p` with `n` entries and `x` text bytes, whose values stand at `v`.
-fn slot_words(f: &[u8], p: u64, v: u64, n: u64, x: u64, q: i32, msf: bool) -> Words
-    requires { ⌜ (v ≡ p + 8 + n * 4) × (v ≤ length (now f)) × (n < 4294967296) × (x < 4294967296) ⌝ }
-    ensures { λ r. ⌜ Worded (slotWords (orderBy msf) (now (f .entry)) p n x q) r ⌝ }
+// The same for the value `q` in the table at `p` with `n` entries and `x` text bytes, whose values stand at `v`.
+fn slot_place(f: &[u8], p: u64, v: u64, n: u64, x: u64, q: i32, msf: bool) -> Words
+    requires { ⌜ (v ≡ p + 8 + n * 4) × (v ≤ length (now f)) × (n < 4294967296) ⌝ }
+    ensures { λ r. ⌜ r ≡ wordsBy (slotPlace (orderBy msf) (now (f .entry)) p n x q) ⌝ }
 {
     let a = v as usize;
     let s = search::find_value(&f[a..], 0, f.len() - a, n as usize, msf, q);
     match s {
-        Slot::Found(m) => entry(f, p, n, x, m as u64, msf),
+        Slot::Found(m) => entry_place(f, p, n, x, m as u64, msf),
         Slot::Missing => no_words(0),
         Slot::Lost => no_words(17),
     }
 }
 
-// The words for the value `q` in a table of `w` bytes at `p`.
-fn table(f: &[u8], p: u64, w: u64, q: i32, msf: bool) -> Words
-    ensures { λ r. ⌜ Worded (tableWords (orderBy msf) (now (f .entry)) p w q) r ⌝ }
+// The same for the value `q` in the table at `p`.
+fn table_place(f: &[u8], p: u64, q: i32, msf: bool) -> Words
+    ensures { λ r. ⌜ r ≡ wordsBy (tablePlace (orderBy msf) (now (f .entry)) p q) ⌝ }
 {
     let n = reading::number_in(f, p, 4, msf);
     if !n.there {
@@ -183,14 +173,46 @@ fn table(f: &[u8], p: u64, w: u64, q: i32, msf: bool) -> Words
     if !x.there {
         return no_words(17);
     }
-    if w != 8 + (8 * n.value + x.value) {
-        return no_words(17);
-    }
     let v = reading::place_in(f, p, 8, n.value, 4);
     if !v.there {
         return no_words(17);
     }
-    slot_words(f, p, v.value, n.value, x.value, q, msf)
+    slot_place(f, p, v.value, n.value, x.value, q, msf)
+}
+
+// Where the words for the value `q` in a label set stand, and how many text bytes are left from there on.
+pub fn place_in_set(f: &[u8], s: LabelSet, q: i32, msf: bool) -> Words
+    ensures { λ r. ⌜ r ≡ wordsBy (setPlace (orderBy msf) (now (f .entry)) s q) ⌝ }
+{
+    if s.code != 0 {
+        return no_words(s.code);
+    }
+    if !s.found {
+        return no_words(0);
+    }
+    table_place(f, s.at, q, msf)
+}
+
+// Words up to their end, by where they stand and how many text bytes are left from there on.
+pub fn ended(f: &[u8], w: Words) -> Words
+    ensures { λ r. ⌜ r ≡ endedBy (now (f .entry)) w ⌝ }
+{
+    if !w.found {
+        return w;
+    }
+    let t = reading::text_in(f, w.at, w.len as usize);
+    if !t.there {
+        return no_words(17);
+    }
+    if w.len <= t.value {
+        return no_words(17);
+    }
+    Words {
+        code: 0,
+        found: true,
+        at: w.at,
+        len: t.value,
+    }
 }
 
 // How many bytes the marks of a block have.
@@ -216,6 +238,21 @@ fn no_block() -> Block
     }
 }
 
+// Whether the table of `w` bytes at `p` is as long as its count and text length say.
+fn is_sized(f: &[u8], p: u64, w: u64, msf: bool) -> bool
+    ensures { λ r. ⌜ r ≡ isSized (orderBy msf) (now (f .entry)) w p ⌝ }
+{
+    let n = reading::number_in(f, p, 4, msf);
+    if !n.there {
+        return false;
+    }
+    let x = reading::number_in(f, p + 4, 4, msf);
+    if !x.there {
+        return false;
+    }
+    w == 8 + (8 * n.value + x.value)
+}
+
 // The block at `p`, with its name in `w` bytes, in a part that ends at `end`.
 fn block_at(f: &[u8], p: u64, end: u64, tagged: bool, w: usize, msf: bool) -> Block
     requires { ⌜ (p < end) × (w ≤ 65535) ⌝ }
@@ -231,6 +268,9 @@ fn block_at(f: &[u8], p: u64, end: u64, tagged: bool, w: usize, msf: bool) -> Bl
         return no_block();
     }
     if end - p - h < n.value + close_size(tagged) {
+        return no_block();
+    }
+    if !is_sized(f, p + h, n.value, msf) {
         return no_block();
     }
     let t = reading::text_in(f, p + a + 4, w);
@@ -261,7 +301,6 @@ pub fn no_set(code: u8) -> LabelSet
         found: false,
         at: 0,
         len: 0,
-        msf: false,
     }
 }
 
@@ -277,7 +316,7 @@ pub fn find_block(
     msf: bool,
 ) -> LabelSet
     requires { ⌜ (a + m ≤ length (now f)) × (w ≤ 65535) ⌝ }
-    ensures { λ r. ⌜ IsSet (now (f .entry)) (λ (q : ℤ). blockWords tagged w (orderBy msf) (now (f .entry)) (slice (now (f .entry)) a m) q end start) r ⌝ }
+    ensures { λ r. ⌜ r ≡ setBy (blockLabels tagged w (orderBy msf) (now (f .entry)) (slice (now (f .entry)) a m) end start) ⌝ }
 {
     let mut p = start;
     while p < end {
@@ -292,23 +331,9 @@ pub fn find_block(
                 found: true,
                 at: s + (7 + w as u64),
                 len: b.table,
-                msf,
             };
         }
         p = s + (7 + w as u64) + b.table + close_size(tagged);
     }
     no_set(0)
-}
-
-// The words for the value `q` in a label set.
-pub fn words_in(f: &[u8], s: LabelSet, q: i32) -> Words
-    ensures { λ r. ⌜ Worded (setSays (now (f .entry)) s q) r ⌝ }
-{
-    if s.code != 0 {
-        return no_words(s.code);
-    }
-    if !s.found {
-        return no_words(0);
-    }
-    table(f, s.at, s.len, q, s.msf)
 }

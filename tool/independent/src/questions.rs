@@ -569,14 +569,11 @@ impl<'a> View<'a> {
             let head = at + self.opening(BLOCK_TAG);
             let length = u128::from(self.number(head, 4)?);
             let block_name = self.field(head + 4, 33)?;
-            let table = Table {
-                place: head + 40,
-                length,
-            };
-            at = table.place + length + self.closing(BLOCK_TAG);
+            at = head + 40 + length + self.closing(BLOCK_TAG);
             if at > end {
                 return Err(Why::Block);
             }
+            let table = self.table(head + 40, length)?;
             if self.named(block_name) == name {
                 return Ok(Some(table));
             }
@@ -584,15 +581,25 @@ impl<'a> View<'a> {
         Ok(None)
     }
 
+    /// A table of a block that is walked over or used, which is as long as it says.
+    fn table(&self, place: u128, length: u128) -> Result<Table, Why> {
+        if length < 8 {
+            return Err(Why::Table);
+        }
+        let n = u128::from(self.number(place, 4)?);
+        let text_length = u128::from(self.number(place + 4, 4)?);
+        if length != 8 + 8 * n + text_length {
+            return Err(Why::Table);
+        }
+        Ok(Table {
+            place,
+            n,
+            text_length,
+        })
+    }
+
     fn label_of(&self, table: &Table, sought: i32) -> Result<Option<Span>, Why> {
-        if table.length < 8 {
-            return Err(Why::Table);
-        }
-        let n = u128::from(self.number(table.place, 4)?);
-        let text_length = u128::from(self.number(table.place + 4, 4)?);
-        if table.length != 8 + 8 * n + text_length {
-            return Err(Why::Table);
-        }
+        let (n, text_length) = (table.n, table.text_length);
         let offsets = table.place + 8;
         let values = offsets + 4 * n;
         let text = values + 4 * n;
@@ -637,7 +644,8 @@ impl<'a> View<'a> {
 
 struct Table {
     place: u128,
-    length: u128,
+    n: u128,
+    text_length: u128,
 }
 
 const NO_RECORD: Answer = Answer::Long {

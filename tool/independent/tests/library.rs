@@ -9,7 +9,7 @@ use independent::dataset::{dataset, Cell as Stored, Dataset};
 use independent::generate::Order;
 use independent::questions::{ask, numbers, Answer, Cell, Kind, Numbers, Question, Span};
 use independent::random::Random;
-use independent::sketch::{Sketch, X};
+use independent::sketch::{Sketch, Variable, X};
 use independent::{check, generate, stated, wrong};
 
 const GENERATED: u64 = 600;
@@ -126,7 +126,7 @@ fn shown<'a>(file: &'a [u8], answer: Answer, plain: &'a [u8]) -> &'a [u8] {
 type Ask = fn(&[u8], &[u64], u64, u64, u64, &mut [u64]) -> u8;
 type AskFile = fn(&[u8], u64, u64, u64, &mut [u64]) -> u8;
 type Text = fn(&[u8], &[u64], u64, u64, u64, &[u8], &mut [u8]) -> usize;
-type Run = fn(&[u8], &[u64], u64, u64, &mut [u64]) -> usize;
+type Run = fn(&[u8], &[u64], u64, u64, &mut [u64], &mut [u64]) -> u8;
 
 /// The functions that are compared: the library's, or wrong ones.
 #[derive(Clone, Copy)]
@@ -245,23 +245,27 @@ fn difference(
             ("words", of.words, j, n, &|m| Question::Words(i, j + m)),
         ];
         for (name, run, first, last, question) in runs {
-            let there = if (1..=last).contains(&first) {
-                last - first + 1
-            } else {
-                0
+            let (number, there) = match (1..=k).contains(&i) && (1..=n).contains(&j) {
+                true => (0, last - first + 1),
+                false => (16, 0),
             };
             for room in [0, 3, 4, 9, 41] {
-                let mut lent = vec![BEFORE; room];
-                let given = run(file, layout, i, j, &mut lent);
                 let many = there.min(room as u64 / 4);
                 let mut left: Vec<u64> = (0..many)
                     .flat_map(|m| coded(ask(file, layout, question(m))))
                     .collect();
                 left.resize(room, BEFORE);
-                if given as u64 != many || lent != left {
-                    return Some(format!(
-                        "{name} {i} {j} in {room}: {given} {lent:x?}, due {many} {left:x?}"
-                    ));
+                for places in [0, 1, 2] {
+                    let mut lent = vec![BEFORE; room];
+                    let mut told = vec![BEFORE; places];
+                    let code = run(file, layout, i, j, &mut lent, &mut told);
+                    let mut counted = vec![BEFORE; places];
+                    counted.iter_mut().take(1).for_each(|place| *place = many);
+                    if (code, &lent, &told) != (number, &left, &counted) {
+                        return Some(format!(
+                            "{name} {i} {j} in {room}: {code} {lent:x?} {told:x?}, due {number} {left:x?} {counted:x?}"
+                        ));
+                    }
                 }
                 *count += many;
             }
@@ -328,21 +332,53 @@ fn exported_questions_answer_alike() {
 
 #[test]
 fn wrong_functions_are_found() {
-    fn late(file: &[u8], layout: &[u64], i: u64, j: u64, lent: &mut [u64]) -> usize {
-        raw::cells_down(file, layout, i, j.saturating_add(1), lent)
+    fn late(f: &[u8], l: &[u64], i: u64, j: u64, lent: &mut [u64], count: &mut [u64]) -> u8 {
+        raw::cells_down(f, l, i, j.saturating_add(1), lent, count)
     }
-    fn short(file: &[u8], layout: &[u64], i: u64, j: u64, lent: &mut [u64]) -> usize {
+    fn short(f: &[u8], l: &[u64], i: u64, j: u64, lent: &mut [u64], count: &mut [u64]) -> u8 {
         let room = lent.len().saturating_sub(4);
-        raw::cells_along(file, layout, i, j, &mut lent[..room])
+        raw::cells_along(f, l, i, j, &mut lent[..room], count)
     }
-    fn plain(file: &[u8], layout: &[u64], i: u64, j: u64, lent: &mut [u64]) -> usize {
-        let count = raw::words_down(file, layout, i, j, lent);
-        for words in lent.chunks_exact_mut(4).take(count) {
+    fn plain(f: &[u8], l: &[u64], i: u64, j: u64, lent: &mut [u64], count: &mut [u64]) -> u8 {
+        let code = raw::words_down(f, l, i, j, lent, count);
+        for words in lent.chunks_exact_mut(4) {
             if words[0] == 4 && words[2] > 3 {
                 words[2] -= 1;
             }
         }
-        count
+        code
+    }
+    /// Nothing is stored, and nothing is said of it.
+    fn silent(f: &[u8], l: &[u64], i: u64, j: u64, lent: &mut [u64], count: &mut [u64]) -> u8 {
+        raw::cells_down(f, l, i, j, lent, count);
+        0
+    }
+    /// An observation that is not there is none of its business.
+    fn any_row(f: &[u8], l: &[u64], i: u64, j: u64, lent: &mut [u64], count: &mut [u64]) -> u8 {
+        match raw::cells_along(f, l, i, j, lent, count) {
+            16 if (1..=l[2]).contains(&i) => 0,
+            code => code,
+        }
+    }
+    /// Nor is a variable.
+    fn any_column(f: &[u8], l: &[u64], i: u64, j: u64, lent: &mut [u64], count: &mut [u64]) -> u8 {
+        match raw::words_down(f, l, i, j, lent, count) {
+            16 if (1..=l[3]).contains(&j) => 0,
+            code => code,
+        }
+    }
+    /// A refused cell refuses the whole run.
+    fn first_cell(f: &[u8], l: &[u64], i: u64, j: u64, lent: &mut [u64], count: &mut [u64]) -> u8 {
+        match (raw::cells_down(f, l, i, j, lent, count), &*lent) {
+            (0, [0, number, ..]) => *number as u8,
+            (code, _) => code,
+        }
+    }
+    /// The numbers that are stored are counted, and not the answers.
+    fn numbers_of(f: &[u8], l: &[u64], i: u64, j: u64, lent: &mut [u64], count: &mut [u64]) -> u8 {
+        let code = raw::cells_along(f, l, i, j, lent, count);
+        count.iter_mut().take(1).for_each(|place| *place *= 4);
+        code
     }
     fn seventeen(file: &[u8], layout: &[u64], number: u64, i: u64, j: u64, lent: &mut [u64]) -> u8 {
         match raw::ask(file, layout, number, i, j, lent) {
@@ -377,6 +413,41 @@ fn wrong_functions_are_found() {
             "plain",
             Functions {
                 words: plain,
+                ..PROVED
+            },
+        ),
+        (
+            "silent",
+            Functions {
+                down: silent,
+                ..PROVED
+            },
+        ),
+        (
+            "any_row",
+            Functions {
+                along: any_row,
+                ..PROVED
+            },
+        ),
+        (
+            "any_column",
+            Functions {
+                words: any_column,
+                ..PROVED
+            },
+        ),
+        (
+            "first_cell",
+            Functions {
+                down: first_cell,
+                ..PROVED
+            },
+        ),
+        (
+            "numbers_of",
+            Functions {
+                along: numbers_of,
                 ..PROVED
             },
         ),
@@ -484,7 +555,11 @@ fn layouts_and_questions_that_are_none() {
         assert_eq!(raw::ask(&file, &own[..count], 2, 0, 0, &mut lent), 17);
         assert_eq!(raw::ask(&file, &own[..count], 13, 1, 1, &mut lent), 16);
         assert_eq!(lent, [0, 16, 0, 0]);
-        assert_eq!(raw::cells_down(&file, &own[..count], 1, 1, &mut lent), 0);
+        for run in [raw::cells_down, raw::cells_along, raw::words_down] {
+            let (mut run_lent, mut many) = ([BEFORE; 4], [BEFORE]);
+            let code = run(&file, &own[..count], 1, 1, &mut run_lent, &mut many);
+            assert_eq!((code, run_lent, many), (16, [BEFORE; 4], [0]));
+        }
         let mut out = [BYTE; 9];
         for number in 0..16 {
             assert_eq!(
@@ -499,17 +574,111 @@ fn layouts_and_questions_that_are_none() {
     assert_eq!(raw::ask(&file, &longer, 2, 0, 0, &mut lent), 0);
     assert_eq!(lent, [1, own[2], 0, 0]);
     for number in [16, 17, 255, u64::MAX] {
-        assert_eq!(raw::ask(&file, &own, number, 1, 1, &mut lent), 16);
-        assert_eq!(lent, [0, 16, 0, 0]);
         lent = [BEFORE; 4];
-        assert_eq!(raw::ask_file(&file, number, 1, 1, &mut lent), 16);
-        assert_eq!(lent, [0, 16, 0, 0]);
+        assert_eq!(raw::ask(&file, &own, number, 1, 1, &mut lent), 255);
+        assert_eq!(lent, [0, 255, 0, 0]);
+        lent = [BEFORE; 4];
+        assert_eq!(raw::ask_file(&file, number, 1, 1, &mut lent), 255);
+        assert_eq!(lent, [0, 255, 0, 0]);
         let cut = &file[..file.len() - 1];
+        lent = [BEFORE; 4];
         assert_eq!(Err(raw::ask_file(cut, number, 1, 1, &mut lent)), check(cut));
-        assert_eq!(lent, [0, 16, 0, 0]);
+        assert_eq!(lent, [0, 255, 0, 0]);
         let mut out = [BYTE; 40];
         assert_eq!(raw::text(&file, &own, number, 1, 1, PLAIN, &mut out), 0);
         assert_eq!(out, [BYTE; 40]);
+    }
+}
+
+/// A file of bytes whose label set has entries at these offsets of a text, for 1, 2, ..; and where its table stands.
+fn labelled(offsets: &[usize], text: &[u8], n: u64) -> (Vec<u8>, usize) {
+    let order = Order::Lsf;
+    let entries = offsets.len() as u64;
+    let mut table = [order.bytes(entries, 4), order.bytes(text.len() as u64, 4)].concat();
+    for offset in offsets {
+        table.extend(order.bytes(*offset as u64, 4));
+    }
+    for value in 1..=entries {
+        table.extend(order.bytes(value, 4));
+    }
+    table.extend(text);
+    let place = table.len();
+    let mut sketch = Sketch::new(114, order);
+    sketch.variables = vec![Variable { set: "set", ..X }];
+    sketch.n = n;
+    sketch.data = (0..n).map(|j| (j % (entries + 1)) as u8).collect();
+    sketch.blocks = vec![("set", table)];
+    let file = sketch.file();
+    let place = file.len() - place;
+    (file, place)
+}
+
+/// Labels far longer than the stretches by which their ends are looked up, many of which share a text. To go through the text of each cell would be to read
+/// 51 GB.
+#[test]
+fn long_labels_down_a_column() {
+    let length = 5_308_416;
+    let zeros = [1000, 1279, 1280, 3_000_000, length - 1];
+    let mut text = vec![b'a'; length];
+    zeros.iter().for_each(|zero| text[*zero] = 0);
+    let starts = [
+        0, 1, 255, 256, 257, 999, 1000, 1001, 1023, 1024, 1279, 1280, 1281, 1535, 1536,
+    ];
+    let ends = [257, 256, 255, 1].map(|back| length - back);
+    let offsets = [&starts[..], &[2_999_999, 3_000_001], &ends].concat();
+    let n = 100_000;
+    let (file, table) = labelled(&offsets, &text, n);
+    let own = numbers(&check(&file).unwrap());
+    let area = table + 8 + 8 * offsets.len();
+    let mut lent = vec![BEFORE; 4 * n as usize];
+    let mut count = [0];
+    assert_eq!(raw::words_down(&file, &own, 1, 1, &mut lent, &mut count), 0);
+    assert_eq!(count, [n as u64]);
+    for (j, answer) in lent.chunks(4).enumerate() {
+        let due = match (j % (offsets.len() + 1)).checked_sub(1) {
+            None => [5, 0, 0, 0],
+            Some(entry) => {
+                let offset = offsets[entry];
+                let end = *zeros.iter().find(|zero| offset <= **zero).unwrap();
+                [4, (area + offset) as u64, (end - offset) as u64, 0]
+            }
+        };
+        assert_eq!(answer, due, "observation {}", j + 1);
+    }
+}
+
+/// Over a wrong layout the text area may be longer than any right one, or pass the file's end.
+#[test]
+fn long_labels_of_wrong_layouts() {
+    let offsets = [
+        0, 255, 256, 1000, 5_308_415, 5_308_416, 5_999_998, 5_999_999,
+    ];
+    let n = offsets.len() as u64 + 1;
+    for length in [5_308_416, 5_308_417, 6_000_000] {
+        let mut text = vec![b'a'; length];
+        for zero in [1000, 5_308_415, length - 1] {
+            text[zero] = 0;
+        }
+        let (file, _) = labelled(&offsets, &text, n);
+        let (right, _) = labelled(&[], b"", n);
+        let mut layout = numbers(&check(&right).unwrap());
+        layout[16] = file.len() as u64;
+        layout[17] = file.len() as u64;
+        let cuts = [1001, 1000, 0].map(|kept| length - kept);
+        for cut in [0, 1, 100, length + 4, length + 70].iter().chain(&cuts) {
+            let file = &file[..file.len() - cut];
+            let mut lent = vec![BEFORE; 4 * n as usize];
+            let mut count = [0];
+            let code = raw::words_down(file, &layout, 1, 1, &mut lent, &mut count);
+            assert_eq!((code, count), (0, [n as u64]));
+            for (j, answer) in (1..=n).zip(lent.chunks(4)) {
+                let due = coded(ask(file, &layout, Question::Words(1, j)));
+                assert_eq!(
+                    answer, due,
+                    "text of {length}, {cut} cut off, observation {j}"
+                );
+            }
+        }
     }
 }
 
@@ -526,8 +695,10 @@ fn half_a_megabyte_of_stack_is_enough() {
             assert_eq!(raw::ask_file(&file, number, 1, 1, &mut lent), 0);
             raw::text(&file, &own, number, 1, 1, PLAIN, &mut [BYTE; 400]);
         }
-        let many = [raw::cells_down, raw::cells_along, raw::words_down];
-        assert!(many.iter().all(|run| run(&file, &own, 1, 1, &mut lent) > 0));
+        for run in [raw::cells_down, raw::cells_along, raw::words_down] {
+            assert_eq!(run(&file, &own, 1, 1, &mut lent, &mut count), 0);
+            assert!(count[0] > 0);
+        }
         assert_eq!(raw::long_list(&file, &mut lent, &mut count), 0);
         assert_eq!(raw::set_list(&file, &mut lent, &mut count), 0);
         assert!(count[0] > 3);
@@ -587,10 +758,14 @@ fn list_difference(of: [List; 3], files: &[Vec<u8>]) -> Result<[usize; 3], Strin
             ),
             Err(_) => Default::default(),
         };
-        let number = verdict.err().unwrap_or(0);
         for (at, (list, due)) in of.into_iter().zip(due).enumerate() {
             counts[at] += due.len();
             for room in [0, due.len().saturating_sub(1), due.len(), due.len() + 3] {
+                let number = match verdict {
+                    Ok(_) if room < due.len() => 14,
+                    Ok(_) => 0,
+                    Err(number) => number,
+                };
                 for places in [0, 1, 2] {
                     let mut lent = vec![BEFORE; room];
                     let mut count = vec![BEFORE; places];
@@ -663,7 +838,10 @@ fn wrong_sort_orders_are_found() {
             *place = *number;
         }
         count.iter_mut().take(1).for_each(|place| *place = many[0]);
-        code
+        match code {
+            0 if (lent.len() as u64) < many[0] => 14,
+            code => code,
+        }
     }
     /// The zero that ends the sort list with them.
     fn ended(file: &[u8], lent: &mut [u64], count: &mut [u64]) -> u8 {
@@ -673,6 +851,35 @@ fn wrong_sort_orders_are_found() {
             *past = 0;
         }
         code
+    }
+    /// Done, where there is no room.
+    fn silent(file: &[u8], lent: &mut [u64], count: &mut [u64]) -> u8 {
+        match raw::sort_order(file, lent, count) {
+            14 => 0,
+            code => code,
+        }
+    }
+    /// No list is empty.
+    fn roomless(file: &[u8], lent: &mut [u64], count: &mut [u64]) -> u8 {
+        match (raw::sort_order(file, lent, count), lent.len()) {
+            (0, 0) => 14,
+            (code, _) => code,
+        }
+    }
+    /// A refusal has no count.
+    fn uncounted(file: &[u8], lent: &mut [u64], count: &mut [u64]) -> u8 {
+        let code = raw::sort_order(file, lent, count);
+        if code == 14 {
+            count.iter_mut().take(1).for_each(|place| *place = 0);
+        }
+        code
+    }
+    /// Room is asked for before the file is judged.
+    fn room_first(file: &[u8], lent: &mut [u64], count: &mut [u64]) -> u8 {
+        match (raw::sort_order(file, lent, count), lent.len()) {
+            (1..=13, 0) => 14,
+            (code, _) => code,
+        }
     }
     /// A file that is refused is sorted by nothing.
     fn accepted(file: &[u8], lent: &mut [u64], count: &mut [u64]) -> u8 {
@@ -684,6 +891,10 @@ fn wrong_sort_orders_are_found() {
         ("ascending", ascending as List),
         ("cut", cut),
         ("ended", ended),
+        ("silent", silent),
+        ("roomless", roomless),
+        ("uncounted", uncounted),
+        ("room_first", room_first),
         ("accepted", accepted),
     ] {
         let of = [raw::long_list, raw::set_list, wrong];
@@ -768,10 +979,20 @@ fn the_safe_crate_says_what_the_dataset_is() {
         let (k, n) = (own[2], own[3]);
         assert_eq!(opened.variable(k + 1).unwrap_err().number(), 16);
         assert_eq!(opened.cell(1, n + 1).unwrap_err().number(), 16);
-        assert_eq!(
-            opened.column(0).err().map(|refusal| refusal.number()),
-            Some(16)
-        );
+        let number = |refusal: dta::Refusal| refusal.number();
+        assert_eq!(opened.column(0).err().map(number), Some(16));
+        assert_eq!(opened.column_words(k + 1).err().map(number), Some(16));
+        for j in [0, n + 1] {
+            assert_eq!(opened.column_from(1, j).err().map(number), Some(16));
+            assert_eq!(opened.column_words_from(1, j).err().map(number), Some(16));
+            assert_eq!(opened.rows_from(j).err().map(number), Some(16));
+        }
+        if n > 0 {
+            assert_eq!(opened.rows_from(n).map(Iterator::count), Ok(1));
+            assert_eq!(opened.column_from(k, n).map(Iterator::count), Ok(1));
+            assert_eq!(opened.column_words_from(k, n).map(Iterator::count), Ok(1));
+            assert_eq!(opened.column_from(k + 1, n).err().map(number), Some(16));
+        }
     }
     assert!(accepted > 500, "{accepted} accepted files");
 }
@@ -785,7 +1006,7 @@ fn cells_are_those(file: &[u8], opened: &dta::File<&[u8]>, own: &Numbers, due: &
     assert_eq!(rows.len() as u64, n);
     for i in 1..=k {
         let column: Vec<dta::Cell> = opened.column(i).unwrap().collect();
-        let words: Vec<dta::Words> = opened.column_words_from(i, 1).unwrap().collect();
+        let words: Vec<dta::Words> = opened.column_words(i).unwrap().collect();
         assert_eq!((column.len(), words.len()), (n as usize, n as usize));
         for j in 1..=n {
             let at = (j - 1) as usize;

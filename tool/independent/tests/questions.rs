@@ -788,16 +788,15 @@ fn label_blocks_end_with_their_part() {
     }
 }
 
-/// Of a block that isn't used the table length and the name's text are needed, nothing else.
+/// Of a block that isn't used the table length, the name's text and the table's two counts are needed, nothing else.
 #[test]
-fn of_a_block_walked_over_only_the_head_is_needed() {
+fn of_a_block_walked_over_head_and_counts_are_needed() {
     for (edition, order) in editions_and_orders() {
         let (file, right) = two_blocks(edition, order);
         let (opening, marks) = if edition == 117 { (14 + 5, 11) } else { (0, 0) };
         let second = right[VALUE_LABELS] + opening + marks + 40 + 21;
-        // Up to the zero of the name.
-        let needed = second as usize + 4 + 4;
-        assert_eq!(&file[needed - 4..needed], b"set\0");
+        // Up to the text length.
+        let needed = second as usize + 40 + 8;
         let unsought = |length: usize| answer(&file[..length], &right, Question::Words(2, 1));
         assert_eq!(unsought(needed), Ok(Answer::Words(None)));
         assert_eq!(unsought(needed - 1), Err(Why::Outside));
@@ -806,6 +805,40 @@ fn of_a_block_walked_over_only_the_head_is_needed() {
         let needed = second as usize + 40 + 24 + 4;
         assert!(matches!(sought(needed), Ok(Answer::Words(Some(_)))));
         assert_eq!(sought(needed - 1), Err(Why::Outside));
+    }
+}
+
+/// The first of two blocks, which isn't used, is as long as it says.
+#[test]
+fn a_table_walked_over_is_as_long_as_it_says() {
+    for (edition, order) in editions_and_orders() {
+        let (file, layout) = two_blocks(edition, order);
+        let opening = if edition == 117 { 14 + 5 } else { 0 };
+        let block = layout[VALUE_LABELS] as usize + opening;
+        let table = block + 40;
+        let changed = |place: usize, number: u64| {
+            let mut file = file.clone();
+            file[place..place + 4].copy_from_slice(&order.bytes(number, 4));
+            answer(&file, &layout, Question::Words(1, 1))
+        };
+        let (entries, text_length) = (table, table + 4);
+        assert!(matches!(changed(block, 21), Ok(Answer::Words(Some(_)))));
+        for length in [0, 7, 8, 20, 22] {
+            assert_eq!(changed(block, length), Err(Why::Table), "length {length}");
+        }
+        for n in [0, 2, 1 + (1 << 29), 1 + (1 << 31)] {
+            assert_eq!(changed(entries, n), Err(Why::Table), "{n} entries");
+        }
+        for text in [0, 4, 6, u64::from(u32::MAX)] {
+            assert_eq!(changed(text_length, text), Err(Why::Table), "text {text}");
+        }
+        // Values, offsets and texts of a table that isn't used are not read.
+        let mut dead = file.clone();
+        dead[table + 8..table + 21].fill(0xff);
+        assert_eq!(
+            answer(&dead, &layout, Question::Words(1, 1)),
+            answer(&file, &layout, Question::Words(1, 1))
+        );
     }
 }
 

@@ -22,7 +22,8 @@ extern "C" {
 /* A long string in a list: v, o, kind, place, length. */
 #define DTA_LONG_STRING 5
 
-/* The verdict on a file, 0 (accepted) to 13. Its layout is stored where there is room for eighteen numbers, all zeros with a refusal. */
+/* The verdict on a file, 0 (accepted) to 13. Its layout is stored where there is room for eighteen numbers, all zeros with a refusal; with fewer the verdict alone is
+ * given and nothing is stored, so a caller who wants the verdict alone lends none (a length of 0). */
 uint8_t dta_check(const uint8_t *file, size_t file_len, uint64_t *layout, size_t layout_len);
 
 /* Writes the file's dataset in an edition (113, 114, 117) and a byte order (1 MSF, 2 LSF) at the start of `out`: 0, or the refusal's number, with which `out` is as
@@ -49,6 +50,9 @@ enum dta_question {
     DTA_WORDS
 };
 
+/* The refusal of a question that is not one of these. It is no number of the table. */
+#define DTA_NO_QUESTION 255
+
 /* What an answer is, and what its values are. A place and a length are of bytes in the file. */
 enum dta_answer {
     DTA_REFUSED,   /* the refusal's number */
@@ -68,27 +72,33 @@ enum dta_answer {
     DTA_LONG       /* kind, place, length: a long string; all 0 where none is meant */
 };
 
-/* The answer to a question by a layout, right or wrong: 0, or the refusal's number (16, 17). It is stored where there is room for four numbers. A layout of fewer than
- * eighteen numbers is taken as zeros; a question that is not one of the above is refused with 16. */
+/* The answer to a question by a layout, right or wrong: 0, or the refusal's number (16, 17). It is stored where there is room for four numbers; with fewer the
+ * number alone is given and nothing is stored. A layout of fewer than eighteen numbers is taken as zeros; a question that is not one of the above is refused with
+ * DTA_NO_QUESTION. */
 uint8_t dta_ask(const uint8_t *file, size_t file_len, const uint64_t *layout, size_t layout_len, uint64_t question, uint64_t i, uint64_t j, uint64_t *answer, size_t answer_len);
 
 /* The bytes that the answer to a question shows: a text of the file, or the caller's plain text where no label is found; none with a refusal or with an answer that
- * names none. Gives how many they are; they are stored at the start of `out` where it has room for all of them, else `out` is left as it came. */
+ * names none, and where there is no such question. Gives how many they are; they are stored at the start of `out` where it has room for all of them, else `out` is
+ * left as it came. */
 size_t dta_text(const uint8_t *file, size_t file_len, const uint64_t *layout, size_t layout_len, uint64_t question, uint64_t i, uint64_t j, const uint8_t *plain, size_t plain_len, uint8_t *out, size_t out_len);
 
 /* The answer to a question about a file that is checked first: the verdict where the file is refused, else 0 or the refusal's number of the answer. The answer by
- * the file's own layout is stored where there is room for four numbers; with a refused file it is that by a layout of zeros, a refusal with 16 or 17. */
+ * the file's own layout is stored where there is room for four numbers; with a refused file it is that by a layout of zeros, a refusal with 16 or 17
+ * (DTA_NO_QUESTION where there is no such question). */
 uint8_t dta_ask_file(const uint8_t *file, size_t file_len, uint64_t question, uint64_t i, uint64_t j, uint64_t *answer, size_t answer_len);
 
 /* Many cells: those of variable i from observation j on, those of observation j from variable i on, and the label words of those of variable i from observation j
- * on. Each is stored as the answer to the question about it, four numbers, as many as there is room for; gives how many. */
-size_t dta_cells_down(const uint8_t *file, size_t file_len, const uint64_t *layout, size_t layout_len, uint64_t i, uint64_t j, uint64_t *answers, size_t answers_len);
-size_t dta_cells_along(const uint8_t *file, size_t file_len, const uint64_t *layout, size_t layout_len, uint64_t i, uint64_t j, uint64_t *answers, size_t answers_len);
-size_t dta_words_down(const uint8_t *file, size_t file_len, const uint64_t *layout, size_t layout_len, uint64_t i, uint64_t j, uint64_t *answers, size_t answers_len);
+ * on: 0, or 16 where there is no such variable or no such observation. Each is stored as the answer to the question about it, four numbers, as many as there is room
+ * for, and may be a refusal of its own (17). How many are stored is told in the first place of `count`, 0 with a refusal; a `count` without a place is left as it
+ * came, and all else is as it would be, here and below. */
+uint8_t dta_cells_down(const uint8_t *file, size_t file_len, const uint64_t *layout, size_t layout_len, uint64_t i, uint64_t j, uint64_t *answers, size_t answers_len, uint64_t *count, size_t count_len);
+uint8_t dta_cells_along(const uint8_t *file, size_t file_len, const uint64_t *layout, size_t layout_len, uint64_t i, uint64_t j, uint64_t *answers, size_t answers_len, uint64_t *count, size_t count_len);
+uint8_t dta_words_down(const uint8_t *file, size_t file_len, const uint64_t *layout, size_t layout_len, uint64_t i, uint64_t j, uint64_t *answers, size_t answers_len, uint64_t *count, size_t count_len);
 
 /* The verdict on a file, and of an accepted one the long strings, five numbers each; or the label sets: for each, place and length of its name and its number of entries,
- * and then for each entry its value, as 32 bits, and place and length of its text; or the variables by which it is sorted, in that order, K at most. How many numbers that
- * is is stored in the first place of `count`, where it has one, 0 with a refusal; a list with no room for all of them is left as it came. */
+ * and then for each entry its value, as 32 bits, and place and length of its text; or the variables by which it is sorted, in that order, K at most. A list with no room
+ * for all of them is left as it came, and the answer is 14. How many numbers that is, with 14 too, is stored in the first place of `count`, where it has one; 0 where the
+ * file is refused. So a caller may lend an empty list first, to learn how many. */
 uint8_t dta_long_list(const uint8_t *file, size_t file_len, uint64_t *list, size_t list_len, uint64_t *count, size_t count_len);
 uint8_t dta_set_list(const uint8_t *file, size_t file_len, uint64_t *list, size_t list_len, uint64_t *count, size_t count_len);
 uint8_t dta_sort_order(const uint8_t *file, size_t file_len, uint64_t *list, size_t list_len, uint64_t *count, size_t count_len);

@@ -77,7 +77,7 @@ static int rewrite(const char *name) {
 }
 
 int main(int count, char **names) {
-    uint64_t layout[DTA_LAYOUT], cell[DTA_ANSWER], words[DTA_ANSWER];
+    uint64_t layout[DTA_LAYOUT], words[DTA_ANSWER], stored = 0;
     uint8_t name[32];
     if (count < 2 || !read_file(names[1])) {
         fprintf(stderr, "a file is due that can be read\n");
@@ -89,14 +89,21 @@ int main(int count, char **names) {
         return 1;
     }
     printf("%llu %s %llu %llu %zu\n", (unsigned long long)layout[0], layout[1] == 1 ? "MSF" : "LSF", (unsigned long long)layout[2], (unsigned long long)layout[3], length);
+    /* The first observation, whole; refused with 16 where there is none. */
+    size_t room = layout[2] * DTA_ANSWER;
+    uint64_t *cells = malloc((room + 1) * sizeof *cells);
+    if (!cells)
+        return 2;
+    dta_cells_along(file, length, layout, DTA_LAYOUT, 1, 1, cells, room, &stored, 1);
     for (uint64_t i = 1; i <= layout[2]; i++) {
         fwrite(name, 1, dta_text(file, length, layout, DTA_LAYOUT, DTA_NAME, i, 0, file, 0, name, sizeof name), stdout);
-        if (dta_ask(file, length, layout, DTA_LAYOUT, DTA_CELL, i, 1, cell, DTA_ANSWER) == 0) {
+        if (i <= stored) {
             dta_ask(file, length, layout, DTA_LAYOUT, DTA_WORDS, i, 1, words, DTA_ANSWER);
             printf(" ");
-            write_cell(cell, words);
+            write_cell(cells + (i - 1) * DTA_ANSWER, words);
         }
         printf("\n");
     }
+    free(cells);
     return count < 3 || rewrite(names[2]) ? 0 : 2;
 }

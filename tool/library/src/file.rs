@@ -1,6 +1,6 @@
 use crate::answer::{Answer, Question, Type};
 use crate::lists::{list, LabelSets, LongStrings};
-use crate::many::{Column, ColumnWords, Rows};
+use crate::many::{Ask, Column, ColumnWords, Rows};
 use crate::{raw, Cell, Refusal, Words, LONGEST};
 
 #[derive(Clone, Copy, PartialEq, Eq, Debug)]
@@ -207,31 +207,39 @@ impl<B: AsRef<[u8]>> File<B> {
 
     // Many cells.
 
-    /// The cells of a variable, from the first observation on.
+    /// The cells of a variable, one for each observation.
     pub fn column(&self, i: u64) -> Result<Column<'_>, Refusal> {
-        self.column_from(i, 1)
+        self.within(i)?;
+        Ok(Column::new(self.bytes(), &self.layout, i, 1))
     }
 
-    /// The cells of a variable, from observation `j` on.
+    /// The cells of a variable, from observation `j` on; refused with 16 where there is no such observation.
     pub fn column_from(&self, i: u64, j: u64) -> Result<Column<'_>, Refusal> {
-        self.within(i)?;
+        self.begins(raw::cells_down, i, j)?;
         Ok(Column::new(self.bytes(), &self.layout, i, j))
     }
 
-    /// The label words of a variable's cells, from observation `j` on.
-    pub fn column_words_from(&self, i: u64, j: u64) -> Result<ColumnWords<'_>, Refusal> {
+    /// The label words of a variable's cells, one for each observation.
+    pub fn column_words(&self, i: u64) -> Result<ColumnWords<'_>, Refusal> {
         self.within(i)?;
+        Ok(ColumnWords::new(self.bytes(), &self.layout, i, 1))
+    }
+
+    /// The label words of a variable's cells, from observation `j` on; refused with 16 where there is no such observation.
+    pub fn column_words_from(&self, i: u64, j: u64) -> Result<ColumnWords<'_>, Refusal> {
+        self.begins(raw::cells_down, i, j)?;
         Ok(ColumnWords::new(self.bytes(), &self.layout, i, j))
     }
 
-    /// The observations, from the first on.
+    /// All observations.
     pub fn rows(&self) -> Rows<'_> {
-        self.rows_from(1)
+        Rows::new(self.bytes(), &self.layout, 1)
     }
 
-    /// The observations, from observation `j` on.
-    pub fn rows_from(&self, j: u64) -> Rows<'_> {
-        Rows::new(self.bytes(), &self.layout, j)
+    /// The observations, from observation `j` on; refused with 16 where there is no such observation.
+    pub fn rows_from(&self, j: u64) -> Result<Rows<'_>, Refusal> {
+        self.begins(raw::cells_along, 1, j)?;
+        Ok(Rows::new(self.bytes(), &self.layout, j))
     }
 
     /// All long strings, to be found by the references of cells.
@@ -289,6 +297,14 @@ impl<B: AsRef<[u8]>> File<B> {
         match self.ask(question) {
             Answer::Part(part) => Ok(part.bytes),
             other => Err(refusal(other)),
+        }
+    }
+
+    /// Refused with 16 unless there is a cell with which such a run can begin.
+    fn begins(&self, run: Ask, i: u64, j: u64) -> Result<(), Refusal> {
+        match run(self.bytes(), &self.layout.0, i, j, &mut [], &mut []) {
+            0 => Ok(()),
+            number => Err(Refusal::new(number)),
         }
     }
 

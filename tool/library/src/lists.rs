@@ -13,15 +13,16 @@ pub(crate) fn list(
     loop {
         let mut list = vec![0; room];
         let mut count = [0];
-        if fill(file, &mut list, &mut count) != 0 {
-            return Vec::new();
-        }
+        let number = fill(file, &mut list, &mut count);
         let count = count[0] as usize;
-        if count <= room {
-            list.truncate(count);
-            return list;
+        match number {
+            0 => {
+                list.truncate(count);
+                return list;
+            }
+            14 => room = count,
+            _ => return Vec::new(),
         }
-        room = count;
     }
 }
 

@@ -7,8 +7,8 @@ use crate::{raw, Cell, Words};
 /// The answers that are asked for at once, unless told otherwise.
 const ANSWERS: usize = 1024;
 
-/// A function of `raw` that answers down a column.
-type Ask = fn(&[u8], &[u64], u64, u64, &mut [u64]) -> usize;
+/// A function of `raw` that answers about cells one after another.
+pub(crate) type Ask = fn(&[u8], &[u64], u64, u64, &mut [u64], &mut [u64]) -> u8;
 
 /// Answers down a column.
 struct Down<'a> {
@@ -44,8 +44,18 @@ impl<'a> Down<'a> {
         if self.next == self.count {
             self.answers.resize(self.at_once * raw::ANSWER, 0);
             let answers = &mut self.answers[..];
+            // Behind the last observation none is stored.
+            let mut count = [0];
+            (self.ask)(
+                self.file,
+                &self.layout.0,
+                self.i,
+                self.j,
+                answers,
+                &mut count,
+            );
             self.next = 0;
-            self.count = (self.ask)(self.file, &self.layout.0, self.i, self.j, answers);
+            self.count = count[0] as usize;
             self.j = self.j.saturating_add(self.count as u64);
             if self.count == 0 {
                 return None;
@@ -126,11 +136,11 @@ impl<'a> Rows<'a> {
     /// Puts the cells of the next observation into `row`, in place of what was there; whether there was one.
     pub fn read(&mut self, row: &mut Vec<Cell<'a>>) -> bool {
         row.clear();
-        if self.j == 0 || self.j > self.layout.observations() {
+        let (layout, answers) = (&self.layout.0, &mut self.answers);
+        if raw::cells_along(self.file, layout, 1, self.j, answers, &mut []) != 0 {
             return false;
         }
-        let count = raw::cells_along(self.file, &self.layout.0, 1, self.j, &mut self.answers);
-        let answers = self.answers.chunks_exact(raw::ANSWER).take(count);
+        let answers = self.answers.chunks_exact(raw::ANSWER);
         row.extend(answers.filter_map(|numbers| Cell::of(numbers.try_into().ok()?, self.file)));
         self.j += 1;
         true

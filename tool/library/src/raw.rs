@@ -8,6 +8,9 @@ pub const LAYOUT: usize = 18;
 /// The numbers of an answer: what it is, and its values.
 pub const ANSWER: usize = 4;
 
+/// The refusal of a question's number that is no question's. It is no number of document 01's table, and the safe functions never meet it.
+pub const NO_QUESTION: u8 = 255;
+
 /// The numbers of a long string: v, o, kind, place, length.
 pub const LONG_STRING: usize = 5;
 
@@ -71,7 +74,9 @@ mod c {
             j: u64,
             answers: *mut u64,
             answers_len: usize,
-        ) -> usize;
+            count: *mut u64,
+            count_len: usize,
+        ) -> u8;
         pub fn dta_cells_along(
             file: *const u8,
             file_len: usize,
@@ -81,7 +86,9 @@ mod c {
             j: u64,
             answers: *mut u64,
             answers_len: usize,
-        ) -> usize;
+            count: *mut u64,
+            count_len: usize,
+        ) -> u8;
         pub fn dta_words_down(
             file: *const u8,
             file_len: usize,
@@ -91,7 +98,9 @@ mod c {
             j: u64,
             answers: *mut u64,
             answers_len: usize,
-        ) -> usize;
+            count: *mut u64,
+            count_len: usize,
+        ) -> u8;
         pub fn dta_long_list(
             file: *const u8,
             file_len: usize,
@@ -121,7 +130,7 @@ mod c {
 
 // SAFETY, of each call below: the slices are valid for the call and apart from each other, and the library keeps none of them.
 
-/// The verdict on a file, 0 to 13. Eighteen numbers are stored where `layout` has room for them, all zeros with a refusal.
+/// The verdict on a file, 0 to 13. Eighteen numbers are stored where `layout` has room for them, all zeros with a refusal; with fewer the verdict alone is given.
 pub fn check(file: &[u8], layout: &mut [u64]) -> u8 {
     unsafe { c::dta_check(file.as_ptr(), file.len(), layout.as_mut_ptr(), layout.len()) }
 }
@@ -144,7 +153,7 @@ pub fn rewrite(file: &[u8], edition: u64, order: u64, out: &mut [u8], len: &mut 
 }
 
 /// The answer to the question of that number about variable `i` and observation `j`, by a layout of eighteen numbers, right or wrong: 0, or the refusal's
-/// number. The answer is stored as four numbers, where `answer` has room for them.
+/// number, [`NO_QUESTION`] where there is no such question. The answer is stored as four numbers, where `answer` has room for them.
 pub fn ask(file: &[u8], layout: &[u64], question: u64, i: u64, j: u64, answer: &mut [u64]) -> u8 {
     unsafe {
         c::dta_ask(
@@ -206,8 +215,16 @@ pub fn ask_file(file: &[u8], question: u64, i: u64, j: u64, answer: &mut [u64]) 
     }
 }
 
-/// The cells of variable `i` from observation `j` on, four numbers each, as many as `answers` has room for; gives how many.
-pub fn cells_down(file: &[u8], layout: &[u64], i: u64, j: u64, answers: &mut [u64]) -> usize {
+/// The cells of variable `i` from observation `j` on, four numbers each, as many as `answers` has room for: 0, or 16 where there is no such variable or no such
+/// observation. How many are stored is told in the first place of `count`, where it has one; 0 with a refusal.
+pub fn cells_down(
+    file: &[u8],
+    layout: &[u64],
+    i: u64,
+    j: u64,
+    answers: &mut [u64],
+    count: &mut [u64],
+) -> u8 {
     unsafe {
         c::dta_cells_down(
             file.as_ptr(),
@@ -218,12 +235,21 @@ pub fn cells_down(file: &[u8], layout: &[u64], i: u64, j: u64, answers: &mut [u6
             j,
             answers.as_mut_ptr(),
             answers.len(),
+            count.as_mut_ptr(),
+            count.len(),
         )
     }
 }
 
-/// The cells of observation `j` from variable `i` on, four numbers each, as many as `answers` has room for; gives how many.
-pub fn cells_along(file: &[u8], layout: &[u64], i: u64, j: u64, answers: &mut [u64]) -> usize {
+/// The cells of observation `j` from variable `i` on. Otherwise as `cells_down`.
+pub fn cells_along(
+    file: &[u8],
+    layout: &[u64],
+    i: u64,
+    j: u64,
+    answers: &mut [u64],
+    count: &mut [u64],
+) -> u8 {
     unsafe {
         c::dta_cells_along(
             file.as_ptr(),
@@ -234,12 +260,21 @@ pub fn cells_along(file: &[u8], layout: &[u64], i: u64, j: u64, answers: &mut [u
             j,
             answers.as_mut_ptr(),
             answers.len(),
+            count.as_mut_ptr(),
+            count.len(),
         )
     }
 }
 
-/// The label words of the cells of variable `i` from observation `j` on, four numbers each, as many as `answers` has room for; gives how many.
-pub fn words_down(file: &[u8], layout: &[u64], i: u64, j: u64, answers: &mut [u64]) -> usize {
+/// The label words of the cells of variable `i` from observation `j` on. Otherwise as `cells_down`.
+pub fn words_down(
+    file: &[u8],
+    layout: &[u64],
+    i: u64,
+    j: u64,
+    answers: &mut [u64],
+    count: &mut [u64],
+) -> u8 {
     unsafe {
         c::dta_words_down(
             file.as_ptr(),
@@ -250,12 +285,14 @@ pub fn words_down(file: &[u8], layout: &[u64], i: u64, j: u64, answers: &mut [u6
             j,
             answers.as_mut_ptr(),
             answers.len(),
+            count.as_mut_ptr(),
+            count.len(),
         )
     }
 }
 
-/// The verdict on a file; and the long strings of an accepted one, five numbers each. How many numbers they are is stored in the first place of `count`, where
-/// it has one. A `list` with no room for all of them is left as it came.
+/// The verdict on a file; of an accepted one, the long strings, five numbers each. A `list` with no room for all of them is left as it came, and the answer is
+/// 14. How many numbers they are, with 14 too, is stored in the first place of `count`, where it has one; 0 where the file is refused.
 pub fn long_list(file: &[u8], list: &mut [u64], count: &mut [u64]) -> u8 {
     unsafe {
         c::dta_long_list(
@@ -269,7 +306,7 @@ pub fn long_list(file: &[u8], list: &mut [u64], count: &mut [u64]) -> u8 {
     }
 }
 
-/// The verdict on a file; and the label sets of an accepted one: for each, place and length of its name and its number of entries, and then for each entry
+/// The verdict on a file; of an accepted one, the label sets: for each, place and length of its name and its number of entries, and then for each entry
 /// its value, as 32 bits, and place and length of its text. Otherwise as `long_list`.
 pub fn set_list(file: &[u8], list: &mut [u64], count: &mut [u64]) -> u8 {
     unsafe {
@@ -284,7 +321,7 @@ pub fn set_list(file: &[u8], list: &mut [u64], count: &mut [u64]) -> u8 {
     }
 }
 
-/// The verdict on a file; and the numbers of the variables by which an accepted one is sorted, in that order. Otherwise as `long_list`.
+/// The verdict on a file; of an accepted one, the numbers of the variables by which it is sorted, in that order. Otherwise as `long_list`.
 pub fn sort_order(file: &[u8], list: &mut [u64], count: &mut [u64]) -> u8 {
     unsafe {
         c::dta_sort_order(

@@ -36,13 +36,14 @@ fn told(given: Vec<OsString>) -> Result<End, End> {
                 cost.line(name, output)?;
                 worst = worst.most(&cost);
             }
-            for (name, make) in made::MIXES {
+            for (name, make) in made::BESIDE {
                 costs(make(size)).line(name, output)?;
             }
         }
         writeln!(
             output,
-            "\nhostile files: cost per byte as multiples of the highest above"
+            "\nhostile files: cost per byte as multiples of the highest of the first {} above",
+            made::ORDINARY.len()
         )?;
         heading(output)?;
         for (name, make) in made::HOSTILE {

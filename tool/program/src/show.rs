@@ -15,6 +15,9 @@ const BLOCK: usize = 1_000;
 /// Answers that are kept for all columns of label words.
 const ANSWERS: usize = 4_000_000;
 
+/// .. and for one of them: each call goes through the texts of a label set once more where they are long.
+const AT_ONCE: usize = 65_536;
+
 /// A field that is longer does not widen its column.
 const WIDEST: usize = 40;
 
@@ -86,7 +89,10 @@ impl<'a> Cells<'a> {
         let shown = variables
             .iter()
             .map(|variable| variable.number as usize - 1);
-        Cells::Rows(file.rows_from(from), Vec::new(), shown.collect())
+        match file.rows_from(from) {
+            Ok(rows) => Cells::Rows(rows, Vec::new(), shown.collect()),
+            Err(_) => Cells::Columns(Vec::new()),
+        }
     }
 
     /// Puts the cells of the next observation into `row`; whether there was one.
@@ -132,7 +138,9 @@ impl<'a> Table<'a> {
             .iter()
             .filter(|variable| labelled(variable))
             .count();
-        let at_once = (ANSWERS / columns.max(1)).clamp(64, 1024);
+        let shown = count.min(left).max(1);
+        let at_once = (ANSWERS / columns.max(1)).clamp(64, AT_ONCE) as u64;
+        let at_once = at_once.min(shown) as usize;
         let words = |variable: &Variable| match labelled(variable) {
             true => file
                 .column_words_from(variable.number, from)

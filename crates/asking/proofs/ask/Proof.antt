@@ -1,9 +1,11 @@
+use mathlib.Core.Path.{refl}
 use Rattle.answers.specs.Answers.{numberBy, partBy}
 use Rattle.text_facts.specs.Marks.{markBy}
 use Rattle.variable_facts.specs.Types.{typedBy}
-use Rattle.cells.specs.Cells.{saidOf}
-use Rattle.walks.specs.Answers.{longOf, wordsOf}
+use Rattle.cells.specs.Cells.{saidBy}
+use Rattle.walks.specs.Answers.{longBy, wordsBy}
 use Rattle.checking.specs.Checks.{layoutBy}
+use Rattle.asking.specs.Asking.{byNumber, byPart, byMark, byType, byCell, byLong, byWords}
 use Rattle.asking.proofs.AskLaws.{asked}
 use borrow.Author.Needs.{needs}
 use Rattle.asking.proofs.ask.Statement.{statement}
@@ -156,82 +158,82 @@ by-words-requires c κs = search needs
 returns : tie.Need-returns
 returns c =
     let a = c .before .before .before .before .before .args in
-    asked (a .f .now) (layoutBy (a .l)) (λ lent. numberBy (c .before .edition .result)) (c .by-number .result) (c .before .before .enum-told .given .1) (c .by-number .ensures) (λ lent. c .before .edition .ensures (a .f .now) .is)
+    asked (a .f .now) (layoutBy (a .l)) numberBy byNumber (c .before .before .enum-told .given .1) (c .by-number .ensures) (c .before .edition .ensures (a .f .now)) refl refl (λ n. refl)
 
 returns-2 : tie.Need-returns-2
 returns-2 c =
     let a = c .before .before .before .before .before .args in
-    asked (a .f .now) (layoutBy (a .l)) (λ lent. numberBy (c .before .order .result)) (c .by-number2 .result) (c .before .before .enum-told2 .given .1) (c .by-number2 .ensures) (λ lent. c .before .order .ensures (a .f .now) .is)
+    asked (a .f .now) (layoutBy (a .l)) numberBy byNumber (c .before .before .enum-told2 .given .1) (c .by-number2 .ensures) (c .before .order .ensures (a .f .now)) refl refl (λ n. refl)
 
 returns-3 : tie.Need-returns-3
 returns-3 c =
     let a = c .before .before .before .before .before .args in
-    asked (a .f .now) (layoutBy (a .l)) (λ lent. numberBy (c .before .variables .result)) (c .by-number3 .result) (c .before .before .enum-told3 .given .1) (c .by-number3 .ensures) (λ lent. c .before .variables .ensures (a .f .now) .is)
+    asked (a .f .now) (layoutBy (a .l)) numberBy byNumber (c .before .before .enum-told3 .given .1) (c .by-number3 .ensures) (c .before .variables .ensures (a .f .now)) refl refl (λ n. refl)
 
 returns-4 : tie.Need-returns-4
 returns-4 c =
     let a = c .before .before .before .before .before .args in
-    asked (a .f .now) (layoutBy (a .l)) (λ lent. numberBy (c .before .rows .result)) (c .by-number4 .result) (c .before .before .enum-told4 .given .1) (c .by-number4 .ensures) (λ lent. c .before .rows .ensures (a .f .now) .is)
+    asked (a .f .now) (layoutBy (a .l)) numberBy byNumber (c .before .before .enum-told4 .given .1) (c .by-number4 .ensures) (c .before .rows .ensures (a .f .now)) refl refl (λ n. refl)
 
 returns-5 : tie.Need-returns-5
 returns-5 c =
     let a = c .before .before .before .before .before .args in
-    asked (a .f .now) (layoutBy (a .l)) (λ lent. partBy (c .before .label .result)) (c .by-part .result) (c .before .before .enum-told5 .given .1) (c .by-part .ensures) (λ lent. c .before .label .ensures .is)
+    asked (a .f .now) (layoutBy (a .l)) partBy byPart (c .before .before .enum-told5 .given .1) (c .by-part .ensures) (c .before .label .ensures) refl refl (λ p n. refl)
 
 returns-6 : tie.Need-returns-6
 returns-6 c =
     let a = c .before .before .before .before .before .args in
-    asked (a .f .now) (layoutBy (a .l)) (λ lent. partBy (c .before .stamp .result)) (c .by-part2 .result) (c .before .before .enum-told6 .given .1) (c .by-part2 .ensures) (λ lent. c .before .stamp .ensures .is)
+    asked (a .f .now) (layoutBy (a .l)) partBy byPart (c .before .before .enum-told6 .given .1) (c .by-part2 .ensures) (c .before .stamp .ensures) refl refl (λ p n. refl)
 
 returns-7 : tie.Need-returns-7
 returns-7 c =
     let a = c .before .before .before .before .before .before .args in
-    asked (a .f .now) (layoutBy (a .l)) (λ lent. typedBy (c .before .var-type .result)) (c .by-type .result) (c .before .before .before .q .given .1) (c .by-type .ensures) (λ lent. c .before .var-type .ensures .tells .is)
+    asked (a .f .now) (layoutBy (a .l)) typedBy byType (c .before .before .before .q .given .1) (c .by-type .ensures) (c .before .var-type .ensures) refl refl (λ t. refl)
 
 returns-8 : tie.Need-returns-8
 returns-8 c =
     let a = c .before .before .before .before .before .before .args in
-    asked (a .f .now) (layoutBy (a .l)) (λ lent. partBy (c .before .name .result)) (c .by-part3 .result) (c .before .before .before .q2 .given .1) (c .by-part3 .ensures) (λ lent. c .before .name .ensures .is)
+    asked (a .f .now) (layoutBy (a .l)) partBy byPart (c .before .before .before .q2 .given .1) (c .by-part3 .ensures) (c .before .name .ensures) refl refl (λ p n. refl)
 
 returns-9 : tie.Need-returns-9
 returns-9 c =
     let a = c .before .before .before .before .before .before .args in
-    asked (a .f .now) (layoutBy (a .l)) (λ lent. partBy (c .before .format .result)) (c .by-part4 .result) (c .before .before .before .q3 .given .1) (c .by-part4 .ensures) (λ lent. c .before .format .ensures .is)
+    asked (a .f .now) (layoutBy (a .l)) partBy byPart (c .before .before .before .q3 .given .1) (c .by-part4 .ensures) (c .before .format .ensures) refl refl (λ p n. refl)
 
 returns-10 : tie.Need-returns-10
 returns-10 c =
     let a = c .before .before .before .before .before .before .args in
-    asked (a .f .now) (layoutBy (a .l)) (λ lent. partBy (c .before .set-name .result)) (c .by-part5 .result) (c .before .before .before .q4 .given .1) (c .by-part5 .ensures) (λ lent. c .before .set-name .ensures .is)
+    asked (a .f .now) (layoutBy (a .l)) partBy byPart (c .before .before .before .q4 .given .1) (c .by-part5 .ensures) (c .before .set-name .ensures) refl refl (λ p n. refl)
 
 returns-11 : tie.Need-returns-11
 returns-11 c =
     let a = c .before .before .before .before .before .before .args in
-    asked (a .f .now) (layoutBy (a .l)) (λ lent. partBy (c .before .var-label .result)) (c .by-part6 .result) (c .before .before .before .q5 .given .1) (c .by-part6 .ensures) (λ lent. c .before .var-label .ensures .is)
+    asked (a .f .now) (layoutBy (a .l)) partBy byPart (c .before .before .before .q5 .given .1) (c .by-part6 .ensures) (c .before .var-label .ensures) refl refl (λ p n. refl)
 
 returns-12 : tie.Need-returns-12
 returns-12 c =
     let a = c .before .before .before .before .before .before .args in
-    asked (a .f .now) (layoutBy (a .l)) (λ lent. markBy (c .before .date-mark .result)) (c .by-mark .result) (c .before .before .before .q6 .given .1) (c .by-mark .ensures) (λ lent. c .before .date-mark .ensures .is)
+    asked (a .f .now) (layoutBy (a .l)) markBy byMark (c .before .before .before .q6 .given .1) (c .by-mark .ensures) (c .before .date-mark .ensures) refl refl (λ b. refl)
 
 returns-13 : tie.Need-returns-13
 returns-13 c =
     let a = c .before .before .before .before .before .before .args in
-    asked (a .f .now) (layoutBy (a .l)) (λ lent. numberBy (c .before .sort-place .result)) (c .by-number5 .result) (c .before .before .before .q7 .given .1) (c .by-number5 .ensures) (λ lent. c .before .sort-place .ensures .is)
+    asked (a .f .now) (layoutBy (a .l)) numberBy byNumber (c .before .before .before .q7 .given .1) (c .by-number5 .ensures) (c .before .sort-place .ensures) refl refl (λ n. refl)
 
 returns-14 : tie.Need-returns-14
 returns-14 c =
     let a = c .before .before .before .before .before .before .args in
-    asked (a .f .now) (layoutBy (a .l)) (λ lent. saidOf (c .before .cell-of .result)) (c .by-cell .result) (c .before .before .before .q8 .given .1) (c .by-cell .ensures) (λ lent. c .before .cell-of .ensures .is)
+    asked (a .f .now) (layoutBy (a .l)) saidBy byCell (c .before .before .before .q8 .given .1) (c .by-cell .ensures) (c .before .cell-of .ensures) refl refl (λ s. refl)
 
 returns-15 : tie.Need-returns-15
 returns-15 c =
     let a = c .before .before .before .before .before .before .args in
-    asked (a .f .now) (layoutBy (a .l)) (λ lent. longOf (c .before .long-string .result)) (c .by-long .result) (c .before .before .before .q9 .given .1) (c .by-long .ensures) (λ lent. c .before .long-string .ensures .is)
+    asked (a .f .now) (layoutBy (a .l)) longBy byLong (c .before .before .before .q9 .given .1) (c .by-long .ensures) (c .before .long-string .ensures) refl refl (λ k p n. refl)
 
 returns-16 : tie.Need-returns-16
 returns-16 c =
     let a = c .before .before .before .before .before .before .args in
-    asked (a .f .now) (layoutBy (a .l)) (λ lent. wordsOf lent (c .before .label-words .result)) (c .by-words .result) (c .before .before .before .q10 .given .1) (c .by-words .ensures) (c .before .label-words .ensures .is)
+    asked (a .f .now) (layoutBy (a .l)) wordsBy byWords (c .before .before .before .q10 .given .1) (c .by-words .ensures) (c .before .label-words .ensures) refl refl ((λ p n. refl), refl)
 
 pub ask-spec : {M : Type 1} → statement M
 ask-spec =

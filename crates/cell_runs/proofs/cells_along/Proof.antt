@@ -11,6 +11,7 @@ use Rattle.reading.proofs.PlaceLaws.{start-is}
 use Rattle.columns.specs.Columns.{capped, columnBy}
 use Rattle.cells.specs.Cells.{rowIn}
 use Rattle.cells.proofs.RowLaws.{can-read, said-in}
+use Rattle.asking.proofs.AskLaws.{cell-means}
 use Rattle.cell_runs.proofs.NextLaws.{Along, along-start, along-next, along-end, along-row, next-inside, next-column}
 use Rattle.cell_runs.proofs.RunLaws.{Run, run-start, run-end, run-long, run-in, run-room, run-on}
 use borrow.Author.Needs.{needs}
@@ -18,14 +19,14 @@ use Rattle.cell_runs.proofs.cells_along.Statement.{statement}
 use Rattle.cell_runs.proofs.cells_along.Tie as tie
 
 abbrev Inv-loop : tie.InvT-loop
-Inv-loop f l i j out₀ n o types start gap c₀ row m₀ out c m =
-    (Run f (layoutBy l) (λ (x : ℕ). askCell (i + x) j) i (l .k) out₀ n m out) × Along f (layoutBy l) i c₀ m c
+Inv-loop f l i j out₀ r n o types start gap c₀ row m₀ out c m =
+    (Run f (layoutBy l) i j (λ (x : ℕ). askCell (i + x) j) i (l .k) out₀ n m out) × Along f (layoutBy l) i c₀ m c
 
 abbrev μ-loop : tie.MeasureT-loop
-μ-loop f l i j out₀ n o types start gap c₀ row m₀ out c m = n - m
+μ-loop f l i j out₀ r n o types start gap c₀ row m₀ out c m = n - m
 
-how-many-requires : tie.Need-how-many-requires Inv-loop μ-loop
-how-many-requires c κs = search needs
+run-of-requires : tie.Need-run-of-requires Inv-loop μ-loop
+run-of-requires c κs = search needs
 
 edition-in-requires : tie.Need-edition-in-requires Inv-loop μ-loop
 edition-in-requires c κs = search needs
@@ -56,7 +57,7 @@ loop-holds c =
     let a = c .before .before .before .before .before .before .before .before .before .before .before .args in
     let f = a .f .now in
     let l = layoutBy (a .l) in
-    (run-start f l (λ (x : ℕ). askCell (a .i + x) (a .j)) (a .i) (a .l .k) (a .out .now) _ (c .before .before .before .before .before .before .before .before .how-many .ensures), along-start f l (a .i) _ (c .before .column-of .ensures))
+    (run-start f l (a .i) (a .j) (λ (x : ℕ). askCell (a .i + x) (a .j)) (a .i) (a .l .k) (a .out .now) _ (c .before .before .before .before .before .before .before .before .run-of .ensures), along-start f l (a .i) _ (c .before .column-of .ensures))
 
 add-v : tie.Need-add-v Inv-loop μ-loop
 add-v c = let h = run-in (c .before .loop .inv .0) (c .loop-test .taken) in omega (arith, h, c .before .before .before .before .before .before .before .before .before .before .before .before .before .good .1 .0)
@@ -94,14 +95,14 @@ types-here c =
 stored : (c : tie.After-slice-known2 Inv-loop μ-loop)
     → (let a = c .before .before .before .before .before .before .before .before .before .before .before .before .before .before .before .before .before .before .args in
     let l = c .before .before .before .before .before .before .loop in
-    Run (a .f .now) (layoutBy (a .l)) (λ (x : ℕ). askCell (a .i + x) (a .j)) (a .i) (a .l .k) (a .out .now) (c .before .before .before .before .before .before .before .before .before .before .before .before .before .before .before .how-many .result) (l .m + 1) (putMid (l .m * 4) (length (l .out) - l .m * 4) (l .out) (c .before .before .put-said .last .0)))
+    Run (a .f .now) (layoutBy (a .l)) (a .i) (a .j) (λ (x : ℕ). askCell (a .i + x) (a .j)) (a .i) (a .l .k) (a .out .now) (c .before .before .before .before .before .before .before .before .before .before .before .before .before .before .before .run-of .result .count) (l .m + 1) (putMid (l .m * 4) (length (l .out) - l .m * 4) (l .out) (c .before .before .put-said .last .0)))
 stored c =
     let d = c .before .before .before .before .before in
     let a = d .before .before .before .before .before .before .before .before .before .before .before .before .before .args in
     let o = d .before .before .before .before .before .before .before .before .before .edition-in in
     let x = c .before .before .before .before .cell-in-row in
     let S = said-in (a .f .now) (layoutBy (a .l)) (a .i + d .before .loop .m) (a .j) (o .result) (o .ensures) (d .before .loop .c) (column-here d) (d .before .before .row-in .result) (row-here d) (omega (arith, d .before .before .before .before .before .before .before .before .before .before .before .before .before .good .0 .0)) (x .result) (x .ensures) in
-    run-on (d .before .loop .inv .0) (d .loop-test .taken) _ _ (S .is) (c .before .before .put-said .ensures)
+    run-on (d .before .loop .inv .0) (d .loop-test .taken) _ _ (cell-means (a .f .now) (layoutBy (a .l)) (a .i + d .before .loop .m) (a .j) S) (c .before .before .put-said .ensures)
 
 cell-in-row-requires : tie.Need-cell-in-row-requires Inv-loop μ-loop
 cell-in-row-requires c κs =
@@ -163,7 +164,7 @@ same-length : tie.Need-same-length Inv-loop μ-loop
 same-length c = run-long (c .before .loop .inv .0)
 
 returns : tie.Need-returns Inv-loop μ-loop
-returns c = run-end (c .before .loop .inv .0) (c .loop-test .left)
+returns c = run-end (c .before .loop .inv .0) (c .loop-test .left) _ (c .before .before .before .before .before .before .before .before .before .before .run-of .ensures)
 
 pub cells-along-spec : {M : Type 1} → statement M
 cells-along-spec =
@@ -171,7 +172,7 @@ cells-along-spec =
     (tie.spec
     Inv-loop
     μ-loop
-    how-many-requires
+    run-of-requires
     edition-in-requires
     place-of-requires
     tag-size-requires

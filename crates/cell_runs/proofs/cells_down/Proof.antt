@@ -9,19 +9,20 @@ use Rattle.checking.specs.Checks.{layoutBy}
 use Rattle.reading.proofs.PlaceLaws.{start-is}
 use Rattle.cells.specs.Cells.{rowIn}
 use Rattle.cells.proofs.RowLaws.{can-read, said-in}
+use Rattle.asking.proofs.AskLaws.{cell-means}
 use Rattle.cell_runs.proofs.RunLaws.{Run, run-start, run-end, run-long, run-in, run-room, run-on}
 use borrow.Author.Needs.{needs}
 use Rattle.cell_runs.proofs.cells_down.Statement.{statement}
 use Rattle.cell_runs.proofs.cells_down.Tie as tie
 
 abbrev Inv-loop : tie.InvT-loop
-Inv-loop f l i j out₀ n o start gap c kind m₀ out m = Run f (layoutBy l) (λ (x : ℕ). askCell i (j + x)) j (l .n) out₀ n m out
+Inv-loop f l i j out₀ r n o start gap c kind m₀ out m = Run f (layoutBy l) i j (λ (x : ℕ). askCell i (j + x)) j (l .n) out₀ n m out
 
 abbrev μ-loop : tie.MeasureT-loop
-μ-loop f l i j out₀ n o start gap c kind m₀ out m = n - m
+μ-loop f l i j out₀ r n o start gap c kind m₀ out m = n - m
 
-how-many-requires : tie.Need-how-many-requires Inv-loop μ-loop
-how-many-requires c κs = search needs
+run-of-requires : tie.Need-run-of-requires Inv-loop μ-loop
+run-of-requires c κs = search needs
 
 edition-in-requires : tie.Need-edition-in-requires Inv-loop μ-loop
 edition-in-requires c κs = search needs
@@ -38,7 +39,7 @@ column-of-requires c κs = search needs
 loop-holds : tie.Need-loop-holds Inv-loop μ-loop
 loop-holds c =
     let a = c .before .before .before .before .before .before .before .args in
-    run-start (a .f .now) (layoutBy (a .l)) (λ (x : ℕ). askCell (a .i) (a .j + x)) (a .j) (a .l .n) (a .out .now) _ (c .before .before .before .before .how-many .ensures)
+    run-start (a .f .now) (layoutBy (a .l)) (a .i) (a .j) (λ (x : ℕ). askCell (a .i) (a .j + x)) (a .j) (a .l .n) (a .out .now) _ (c .before .before .before .before .run-of .ensures)
 
 add-row-in : tie.Need-add-row-in Inv-loop μ-loop
 add-row-in c = let h = run-in (c .before .loop .inv) (c .loop-test .taken) in omega (arith, h, c .before .before .before .before .before .before .before .before .before .good .1 .0)
@@ -99,13 +100,13 @@ loop-again c =
     let d = r .before .before .before .column-of in
     let x = c .before .before .before .before .cell-in-row in
     let S = said-in (a .f .now) (layoutBy (a .l)) (a .i) (a .j + r .before .before .loop .m) (o .result) (o .ensures) (d .result) (d .ensures) (r .row-in .result) (row-here r) (omega (arith, r .before .before .before .before .before .before .before .before .before .before .good .0 .0)) (x .result) (x .ensures) in
-    run-on (r .before .before .loop .inv) (r .before .loop-test .taken) _ _ (S .is) (c .before .before .put-said .ensures)
+    run-on (r .before .before .loop .inv) (r .before .loop-test .taken) _ _ (cell-means (a .f .now) (layoutBy (a .l)) (a .i) (a .j + r .before .before .loop .m) S) (c .before .before .put-said .ensures)
 
 same-length : tie.Need-same-length Inv-loop μ-loop
 same-length c = run-long (c .before .loop .inv)
 
 returns : tie.Need-returns Inv-loop μ-loop
-returns c = run-end (c .before .loop .inv) (c .loop-test .left)
+returns c = run-end (c .before .loop .inv) (c .loop-test .left) _ (c .before .before .before .before .before .before .run-of .ensures)
 
 pub cells-down-spec : {M : Type 1} → statement M
 cells-down-spec =
@@ -113,7 +114,7 @@ cells-down-spec =
     (tie.spec
     Inv-loop
     μ-loop
-    how-many-requires
+    run-of-requires
     edition-in-requires
     place-of-requires
     tag-size-requires

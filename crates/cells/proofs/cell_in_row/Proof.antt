@@ -4,6 +4,7 @@ use Rattle.format.specs.Number.{orderBy}
 use Rattle.codes.specs.Fields.{typeOf}
 use Rattle.cells.specs.Cells.{cellSaid}
 use Rattle.cells.proofs.CellLaws.{said-none, cell-after}
+use Rattle.cells.proofs.RowLaws.{row-refused, row-here}
 use borrow.Author.Needs.{needs}
 use Rattle.cells.proofs.cell_in_row.Statement.{statement}
 use Rattle.cells.proofs.cell_in_row.Tie as tie
@@ -13,7 +14,8 @@ no-said-requires c κs = search needs
 
 returns : tie.Need-returns
 returns c =
-    record { away = λ z. c .no-said .ensures; here = λ z. absurd (c .before .if1 .taken z) }
+    let a = c .before .before .before .before .args in
+    λ e v u. row-refused e (orderBy (a .msf)) (a .f .now) (a .row) (typeOf (a .kind) (a .width)) (a .offset) (c .before .if1 .taken) (c .no-said .ensures)
 
 sub-if2 : tie.Need-sub-if2
 sub-if2 c = c .before .before .before .before .pre .inside (c .before .if1 .left)
@@ -31,10 +33,7 @@ returns-2 c =
     let o = orderBy (a .msf) in
     let x = typeOf (a .kind) (a .width) in
     let n = g .inside z in
-    record {
-      away = λ h. absurd (h z);
-      here = λ h. λ e v u. said-none (cellSaid e o f x p) 17 _ (c .no-said2 .ensures) (cell-after e o f x p (omega (arith, n, c .before .if2 .taken)));
-    }
+    λ e v u. row-here e o f (a .row) x (a .offset) z (said-none (cellSaid e o f x p) 17 _ (c .no-said2 .ensures) (cell-after e o f x p (omega (arith, n, c .before .if2 .taken))))
 
 add-read-cell : tie.Need-add-read-cell
 add-read-cell c = search needs
@@ -44,7 +43,8 @@ read-cell-requires c κs = c .before .before .before .before .before .before .pr
 
 returns-3 : tie.Need-returns-3
 returns-3 c =
-    record { away = λ h. absurd (h (c .before .before .before .before .if1 .left)); here = λ h. c .read-cell .ensures }
+    let a = c .before .before .before .before .before .before .before .args in
+    λ e v u. row-here e (orderBy (a .msf)) (a .f .now) (a .row) (typeOf (a .kind) (a .width)) (a .offset) (c .before .before .before .before .if1 .left) (c .read-cell .ensures e v u)
 
 pub cell-in-row-spec : {M : Type 1} → statement M
 cell-in-row-spec =

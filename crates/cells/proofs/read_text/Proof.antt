@@ -4,7 +4,7 @@ use Rattle.reading.specs.Reads.{lengthIn}
 use Rattle.reading.proofs.ReadLaws.{read-none, read-got}
 use Rattle.cells.specs.Cells.{cellSaid}
 use Rattle.format.specs.Variables.{textType}
-use Rattle.cells.proofs.CellLaws.{said-none, text-said-none, text-said}
+use Rattle.cells.proofs.CellLaws.{said-none, said-cell, text-said-none, text-said}
 use borrow.Author.Needs.{needs}
 use borrow.Author.Needs.{needs}
 use Rattle.cells.proofs.read_text.Statement.{statement}
@@ -41,11 +41,7 @@ returns-2 c =
     let f = a .f .now in
     let t = c .before .before .text-in .result in
     let T = c .before .before .text-in .ensures in
-    record {
-      is = text-said e o f (a .width) (a .p) (t .value) (read-got t (lengthIn (a .width) f (a .p)) T (not-false (t .there) (c .if1 .left)));
-      alone = λ q. absurd (q refl);
-      letters = tt;
-    })
+    said-cell (cellSaid e o f (textType (a .width)) (a .p)) _ (text-said e o f (a .width) (a .p) (t .value) (read-got t (lengthIn (a .width) f (a .p)) T (not-false (t .there) (c .if1 .left)))))
 
 pub read-text-spec : {M : Type 1} → statement M
 read-text-spec = tie.close (tie.spec text-in-requires no-said-requires returns returns-2)

@@ -1,11 +1,11 @@
-use mathlib.Core.Path.{sym, ap, _∙_}
-use Prim.Native.Nat.{ℕ, _+_}
+use mathlib.Core.Path.{sym, _∙_}
+use Prim.Native.Nat.{_+_, _-_, _*_}
 use native.Mathlib.Omega.{arith}
-use mathlib.Core.Bool.{Bool, cond}
 use borrow.Author.Tests.{not-true, not-false}
-use Rattle.questions.specs.Readings.{Try, none, got}
+use Rattle.questions.specs.Readings.{none, got}
+use Rattle.reading.specs.Reads.{placeIn}
+use Rattle.reading.proofs.ReadLaws.{read-none, read-got}
 use Rattle.columns.proofs.ColumnLaws.{among-in}
-use Rattle.cells.specs.Cells.{rowBy}
 use Rattle.cells.proofs.RowLaws.{no-column, row-out, row-lost, row-read}
 use borrow.Author.Needs.{needs}
 use Rattle.cells.proofs.row_in.Statement.{statement}
@@ -57,17 +57,17 @@ returns-4 c =
     let a = c .before .before .before .before .before .before .before .before .before .args in
     let i = c .before .before .before .before .before .before .is-among in
     let z = c .before .before .before .place-in in
+    let P = placeIn (a .f .now) (a .start + a .gap + (a .j - 1) * a .width) in
     c .no-row4 .ensures
-    ∙ sym (ap (λ (t : Bool). rowBy (cond t (got (z .result .value)) none)) (not-true (z .result .there) (c .before .if4 .taken)))
-    ∙ row-read (a .f .now) (a .code) (a .width) (a .j) (a .n) (a .start + a .gap) (c .before .before .before .before .if3 .left) (sym (i .ensures) ∙ not-false (i .result) (c .before .before .before .before .before .if2 .left)) (z .result) (z .ensures)
+    ∙ row-read (a .f .now) (a .code) (a .width) (a .j) (a .n) (a .start + a .gap) (c .before .before .before .before .if3 .left) (sym (i .ensures) ∙ not-false (i .result) (c .before .before .before .before .before .if2 .left)) none (sym (read-none (z .result) P (z .ensures) (not-true (z .result .there) (c .before .if4 .taken))))
 
 returns-5 : tie.Need-returns-5
 returns-5 c =
     let a = c .before .before .before .before .before .before .before .before .args in
     let i = c .before .before .before .before .before .is-among in
     let z = c .before .before .place-in in
-    sym (ap (λ (t : Bool). rowBy (cond t (got (z .result .value)) none)) (not-false (z .result .there) (c .if4 .left)))
-    ∙ row-read (a .f .now) (a .code) (a .width) (a .j) (a .n) (a .start + a .gap) (c .before .before .before .if3 .left) (sym (i .ensures) ∙ not-false (i .result) (c .before .before .before .before .if2 .left)) (z .result) (z .ensures)
+    let P = placeIn (a .f .now) (a .start + a .gap + (a .j - 1) * a .width) in
+    row-read (a .f .now) (a .code) (a .width) (a .j) (a .n) (a .start + a .gap) (c .before .before .before .if3 .left) (sym (i .ensures) ∙ not-false (i .result) (c .before .before .before .before .if2 .left)) (got (z .result .value)) (sym (read-got (z .result) P (z .ensures) (not-false (z .result .there) (c .if4 .left))))
 
 pub row-in-spec : {M : Type 1} → statement M
 row-in-spec =

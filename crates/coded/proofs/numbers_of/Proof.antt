@@ -64,28 +64,28 @@ cast-t17 : tie.Need-cast-t17
 cast-t17 c = search needs
 
 returns : tie.Need-returns
-returns c = answer-case (c .before .before .x .given .1) (λ lent. c .numbers .ensures)
+returns c = answer-case (c .before .before .x .given .1) (c .numbers .ensures)
 
 returns-2 : tie.Need-returns-2
-returns-2 c = answer-case (c .before .before .x2 .given .1) (λ lent. c .numbers2 .ensures)
+returns-2 c = answer-case (c .before .before .x2 .given .1) (c .numbers2 .ensures)
 
 returns-3 : tie.Need-returns-3
-returns-3 c = answer-case (c .before .before .before .x3 .given .1) (λ lent. c .numbers3 .ensures ∙ ap (λ (b : ℕ). four 2 b 0 0) (c .before .yes-no .ensures))
+returns-3 c = answer-case (c .before .before .before .x3 .given .1) (c .numbers3 .ensures ∙ ap (λ (b : ℕ). four 2 b 0 0) (c .before .yes-no .ensures))
 
 returns-4 : tie.Need-returns-4
-returns-4 c = answer-case (c .before .before .before .x4 .given .1) (λ lent. c .numbers4 .ensures ∙ ap (λ (b : ℕ). four 3 b 0 0) (c .before .type-code .ensures))
+returns-4 c = answer-case (c .before .before .before .x4 .given .1) (c .numbers4 .ensures ∙ ap (λ (b : ℕ). four 3 b 0 0) (c .before .type-code .ensures))
 
 returns-5 : tie.Need-returns-5
-returns-5 c = answer-case (c .before .before .x5 .given .1) (λ lent. c .numbers5 .ensures)
+returns-5 c = answer-case (c .before .before .x5 .given .1) (c .numbers5 .ensures)
 
 returns-6 : tie.Need-returns-6
-returns-6 c = answer-case (c .before .before .x6 .given .1) (λ lent. c .cell-numbers .ensures)
+returns-6 c = answer-case (c .before .before .x6 .given .1) (c .cell-numbers .ensures)
 
 returns-7 : tie.Need-returns-7
-returns-7 c = answer-case (c .before .enum-told .given .1) (λ lent. c .numbers6 .ensures)
+returns-7 c = answer-case (c .before .enum-told .given .1) (c .numbers6 .ensures)
 
 returns-8 : tie.Need-returns-8
-returns-8 c = answer-case (c .before .x7 .given .1) (λ lent. refl)
+returns-8 c = answer-case (c .before .x7 .given .1) (refl)
 
 pub numbers-of-spec : {M : Type 1} → statement M
 numbers-of-spec =

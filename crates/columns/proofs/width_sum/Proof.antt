@@ -1,4 +1,5 @@
 use mathlib.Core.Path.{_≡_, refl, sym, ap, _∙_}
+use Rattle.reading.specs.Reads.{readBy}
 use Prim.Native.Nat.{_+_, _-_, _*_, _≤_}
 use native.Mathlib.Omega.{arith}
 use lib.ListN.{length}
@@ -52,7 +53,7 @@ returns c =
     let l = c .before .before .before .before .loop in
     let b = c .before .before .before .loop-test .taken in
     let h : p + l .j * codeWidth t + codeWidth t ≤ length f = omega (arith, row-in (l .j) n (codeWidth t) b, c .before .before .before .before .before .before .pre) in
-    sum-none t o f n p (l .s) (l .j) (l .inv) b h _ (c .before .before .field-at .ensures) (c .if1 .taken)
+    ap readBy (sum-none t o f n p (l .s) (l .j) (l .inv) b h _ (c .before .before .field-at .ensures) (c .if1 .taken))
 
 -- src/lib.rt:104:9
 add-capped-requires : tie.Need-add-capped-requires Inv-loop μ-loop
@@ -90,7 +91,7 @@ returns-2 c =
     let n = a .n in
     let p = a .p in
     let l = c .before .loop in
-    sum-end t o f n p (l .s) (l .j) (l .inv) (c .loop-test .left)
+    ap readBy (sum-end t o f n p (l .s) (l .j) (l .inv) (c .loop-test .left))
 
 pub width-sum-spec : {M : Type 1} → statement M
 width-sum-spec =

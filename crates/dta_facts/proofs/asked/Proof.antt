@@ -1,6 +1,7 @@
-use mathlib.Core.Path.{_∙_}
-use mathlib.Core.List.{[]}
+use mathlib.Core.Path.{ap, _∙_}
+use Rattle.checking.specs.Checks.{layoutBy}
 use Rattle.asking.specs.Asking.{answerBy}
+use Rattle.asking.proofs.AskLaws.{asked-means}
 use Rattle.dta_facts.specs.Exports.{layoutIn}
 use Rattle.dta_facts.proofs.AskLaws.{asked-none, asked-some, asked-of}
 use borrow.Author.Needs.{needs}
@@ -24,7 +25,7 @@ asked-requires c κs = search needs
 returns-2 : tie.Need-returns-2
 returns-2 c =
     let a = c .before .before .before .before .before .before .args in
-    asked-some (a .file .now) (layoutIn (a .layout .now)) (a .q) (a .i) (a .j) (answerBy [] (c .asked .result)) (c .before .before .before .if1 .left) (c .asked .ensures [] ∙ asked-of (a .file .now) (c .before .before .layout-in .ensures) (c .before .question-of .ensures))
+    asked-some (a .file .now) (layoutIn (a .layout .now)) (a .q) (a .i) (a .j) (answerBy (c .asked .result)) (c .before .before .before .if1 .left) (ap answerBy (c .asked .ensures) ∙ asked-means (a .file .now) (layoutBy (c .before .before .layout-in .result)) (c .before .question-of .result) ∙ asked-of (a .file .now) (c .before .before .layout-in .ensures) (c .before .question-of .ensures))
 
 pub asked-spec : {M : Type 1} → statement M
 asked-spec =

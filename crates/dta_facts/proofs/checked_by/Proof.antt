@@ -1,8 +1,8 @@
-use mathlib.Core.Path.{refl, _∙_}
-use mathlib.Core.List.{[]}
+use mathlib.Core.Path.{refl, ap, _∙_}
 use native.Mathlib.Omega.{arith}
 use Rattle.format.specs.Dta.{layoutOf}
 use Rattle.asking.specs.Asking.{answerBy}
+use Rattle.asking.proofs.AskLaws.{asked-means}
 use Rattle.dta_facts.proofs.AskLaws.{asked-none, asked-some, asked-of}
 use borrow.Author.Needs.{needs}
 use Rattle.dta_facts.proofs.checked_by.Statement.{statement}
@@ -19,7 +19,7 @@ returns c =
     let k = c .before .checked-asked in
     let a = c .before .before .before .before .before .args in
     let f = a .file .now in
-    (k .ensures .0, asked-some f (layoutOf f) (a .q) (a .i) (a .j) (answerBy [] (k .result)) (omega (arith, c .if1 .taken)) (k .ensures .1 [] ∙ asked-of f refl (c .before .before .question-of .ensures)))
+    (k .ensures .0, asked-some f (layoutOf f) (a .q) (a .i) (a .j) (answerBy (k .result)) (omega (arith, c .if1 .taken)) (ap answerBy (k .ensures .1) ∙ asked-means f (layoutOf f) (c .before .before .question-of .result) ∙ asked-of f refl (c .before .before .question-of .ensures)))
 
 returns-2 : tie.Need-returns-2
 returns-2 c =

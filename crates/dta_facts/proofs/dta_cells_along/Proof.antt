@@ -1,5 +1,6 @@
 use Rattle.format.specs.Dta.{Layout}
 use Rattle.dta_facts.proofs.LayoutLaws.{tells-by}
+use Rattle.dta_facts.proofs.StoreLaws.{runs-stored}
 use borrow.Author.Needs.{needs}
 use Rattle.dta_facts.proofs.dta_cells_along.Statement.{statement}
 use Rattle.dta_facts.proofs.dta_cells_along.Tie as tie
@@ -10,13 +11,28 @@ layout-in-requires c κs = search needs
 cells-along-requires : tie.Need-cells-along-requires
 cells-along-requires c κs = search needs
 
+put-first-requires : tie.Need-put-first-requires
+put-first-requires c κs = search needs
+
 same-length : tie.Need-same-length
 same-length c = search needs
 
+same-length-2 : tie.Need-same-length-2
+same-length-2 c = search needs
+
 returns : tie.Need-returns
 returns c =
-    tells-by (λ (l : Layout). l .variables) (c .before .before .before .before .before .before .before .before .args .i) (c .before .before .before .before .layout-in .ensures) (c .before .before .cells-along .ensures)
+    let b = c .before .before .before .before .before .before in
+    let a = b .before .before .before .before .before .before .before .args in
+    runs-stored (a .count .now) (tells-by (λ (l : Layout). l .variables) (a .i) (b .before .before .layout-in .ensures) (b .cells-along .ensures)) (c .before .before .put-first .ensures)
 
 pub dta-cells-along-spec : {M : Type 1} → statement M
 dta-cells-along-spec =
-    tie.close (tie.spec layout-in-requires cells-along-requires same-length returns)
+    tie.close
+    (tie.spec
+    layout-in-requires
+    cells-along-requires
+    put-first-requires
+    same-length
+    same-length-2
+    returns)

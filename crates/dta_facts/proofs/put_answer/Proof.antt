@@ -19,12 +19,12 @@ returns : tie.Need-returns
 returns c =
     let b = c .before .before .before .before .before in
     let a = b .before .before .args in
-    answer-room (a .out .now) (answerBy [] (a .x)) (omega (arith, b .if1 .taken)) (c .before .before .put-four .ensures) (c .before .before .before .numbers-of .ensures [])
+    answer-room (a .out .now) (answerBy (a .x)) (omega (arith, b .if1 .taken)) (c .before .before .put-four .ensures) (c .before .before .before .numbers-of .ensures)
 
 returns-2 : tie.Need-returns-2
 returns-2 c =
     let a = c .before .before .args in
-    answer-none (a .out .now) (answerBy [] (a .x)) (omega arith)
+    answer-none (a .out .now) (answerBy (a .x)) (omega arith)
 
 pub put-answer-spec : {M : Type 1} → statement M
 put-answer-spec =

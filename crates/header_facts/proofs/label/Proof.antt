@@ -5,6 +5,7 @@ use borrow.Author.Tests.{not-true, not-false}
 use Rattle.questions.specs.Ask.{askLabel}
 use Rattle.checking.specs.Checks.{layoutBy}
 use Rattle.reading.proofs.AnswerLaws.{edition-widths}
+use Rattle.answers.specs.Answers.{partBy}
 use Rattle.answers.proofs.TellLaws.{tells-shut, tells-open}
 use Rattle.header_facts.proofs.HeadLaws.{label-new, label-old}
 use borrow.Author.Needs.{needs}
@@ -33,7 +34,7 @@ returns c =
     let l = layoutBy (a .l) in
     let r = c .before .before .before .edition-in .result in
     let E = c .before .before .before .edition-in .ensures in
-    tells-shut f l askLabel r E refl (not-true (r .there) (c .before .if1 .taken)) (c .no-part .ensures)
+    tells-shut f l askLabel r E partBy refl (not-true (r .there) (c .before .if1 .taken)) (c .no-part .ensures)
 
 -- src/lib.rt:205:32
 add-counted-part : tie.Need-add-counted-part
@@ -69,7 +70,7 @@ returns-2 c =
     let E = c .before .before .before .before .edition-in .ensures in
     let h = not-false (r .there) (c .before .before .if1 .left) in
     let w = edition-widths (l .release) (l .order) r E h in
-    tells-open f l askLabel r E refl h (label-new f l r (c .before .if2 .taken)) (c .counted-part .ensures)
+    tells-open f l askLabel r E partBy refl h (label-new f l r (c .before .if2 .taken)) (c .counted-part .ensures)
 
 -- src/lib.rt:207:22
 add-text-field : tie.Need-add-text-field
@@ -109,7 +110,7 @@ returns-3 c =
     let E = c .before .before .before .before .before .edition-in .ensures in
     let h = not-false (r .there) (c .before .before .before .if1 .left) in
     let w = edition-widths (l .release) (l .order) r E h in
-    tells-open f l askLabel r E refl h (label-old f l r (c .before .before .if2 .left)) (c .text-field .ensures)
+    tells-open f l askLabel r E partBy refl h (label-old f l r (c .before .before .if2 .left)) (c .text-field .ensures)
 
 pub label-spec : {M : Type 1} → statement M
 label-spec =

@@ -1,13 +1,15 @@
 use borrow.Author.Needs.{needs}
-use mathlib.Core.Path.{refl, ap}
+use mathlib.Core.Path.{refl, ap, _∙_}
 use Prim.Native.Nat.{_<_}
 use lib.ListN.{length}
 use native.Mathlib.Omega.{arith}
 use borrow.Author.Tests.{not-true, not-false}
 use Rattle.format.specs.Number.{orderBy}
-use Rattle.questions.specs.Ask.{orRefused}
+use Rattle.questions.specs.Readings.{Try}
+use Rattle.questions.specs.Ask.{Answer, orRefused}
+use Rattle.answers.specs.Answers.{partBy}
 use Rattle.header_facts.specs.Header.{newStamp}
-use Rattle.answers.proofs.TellLaws.{part-none, tells-as}
+use Rattle.answers.proofs.TellLaws.{part-none}
 use Rattle.header_facts.proofs.HeadLaws.{counted-inside, stamp-none, stamp-past, stamp-there}
 use borrow.Author.Needs.{needs}
 use Rattle.header_facts.proofs.new_stamp.Statement.{statement}
@@ -82,7 +84,7 @@ returns-3 c =
     let N = c .before .before .before .before .before .before .number-in .ensures in
     let t = newStamp o (a .w) f (a .p) in
     let h = not-false (c .before .before .before .before .before .before .number-in .result .there) (c .before .before .before .before .if1 .left) in
-    tells-as (ap orRefused (stamp-there o (a .w) f (a .p) N h _ (c .before .before .before .place-in .ensures) (not-false (c .before .before .before .place-in .result .there) (c .before .if2 .left)))) (c .counted-part .ensures)
+    c .counted-part .ensures ∙ ap (λ (x : Try Answer). partBy (orRefused x)) (stamp-there o (a .w) f (a .p) N h _ (c .before .before .before .place-in .ensures) (not-false (c .before .before .before .place-in .result .there) (c .before .if2 .left)))
 
 pub new-stamp-spec : {M : Type 1} → statement M
 new-stamp-spec =

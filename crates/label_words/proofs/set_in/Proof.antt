@@ -1,5 +1,5 @@
-use mathlib.Core.Path.{_≡_, refl, sym, ap, _∙_}
-use Prim.Native.Nat.{_+_, _-_}
+use mathlib.Core.Path.{_≡_, refl, ap, _∙_}
+use Prim.Native.Nat.{ℕ, _+_, _-_}
 use native.Mathlib.Omega.{arith}
 use lib.ListN.{getD}
 use borrow.Author.Tests.{not-true, not-false}
@@ -7,14 +7,13 @@ use Rattle.format.specs.Number.{orderBy}
 use Rattle.format.specs.Edition.{n-value-label-names, n-value-labels}
 use Rattle.editions.specs.Editions.{numbersOf}
 use Rattle.questions.specs.Readings.{got}
-use Rattle.questions.specs.Ask.{startOf, endOf, fieldPlace}
-use Rattle.reading.specs.Reads.{tryOf, lengthIn, placeIn}
+use Rattle.questions.specs.Ask.{unlabelled, refused, labels, startOf, endOf, fieldPlace}
+use Rattle.reading.specs.Reads.{readBy, lengthIn, placeIn}
 use Rattle.reading.proofs.ReadLaws.{read-none, read-got, place-is, place-past}
 use Rattle.reading.proofs.PlaceLaws.{list-place, start-is, end-is, part-more}
 use Rattle.checking.specs.Checks.{layoutBy}
-use Rattle.walks.proofs.BlockLaws.{refused-set, plain-set}
 use Rattle.label_words.specs.Words.{setSaid}
-use Rattle.label_words.proofs.WordLaws.{set-past, set-none, set-inside, set-empty, set-walk, set-over}
+use Rattle.label_words.proofs.WordLaws.{set-as, set-past, set-none, set-inside, set-empty, set-walk, set-over}
 use borrow.Author.Needs.{needs}
 use Rattle.label_words.proofs.set_in.Statement.{statement}
 use Rattle.label_words.proofs.set_in.Tie as tie
@@ -23,12 +22,12 @@ use Rattle.label_words.proofs.set_in.Tie as tie
 field : (c : tie.After-place-in)
     → (let a = c .before .before .before .before .before .args in
     let e = numbersOf (a .e) in
-    tryOf (c .place-in .result) ≡ placeIn (a .f .now) (fieldPlace (e .tagged) (layoutBy (a .t2)) 6 n-value-label-names (e .nameWidth) (a .i)))
+    (c .place-in .result) ≡ readBy (placeIn (a .f .now) (fieldPlace (e .tagged) (layoutBy (a .t2)) 6 n-value-label-names (e .nameWidth) (a .i))))
 field c =
     let a = c .before .before .before .before .before .args in
     let e = numbersOf (a .e) in
     c .place-in .ensures
-    ∙ ap (placeIn (a .f .now))
+    ∙ ap (λ (x : ℕ). readBy (placeIn (a .f .now) x))
     (list-place (e .tagged) n-value-label-names 19 (getD (a .t2 .places) 6 0) (c .before .before .tag-size .result) (c .before .less .result) (a .i - 1) (e .nameWidth) refl (c .before .before .tag-size .ensures) (c .before .less .ensures .0))
 
 -- .. that place, and what is read there
@@ -36,14 +35,14 @@ named : (c : tie.After-text-in)
     → (let a = c .before .before .before .before .before .before .before .before .args in
     let e = numbersOf (a .e) in
     let p = fieldPlace (e .tagged) (layoutBy (a .t2)) 6 n-value-label-names (e .nameWidth) (a .i) in
-    (c .before .before .before .place-in .result .value ≡ p) × (tryOf (c .text-in .result) ≡ lengthIn (e .nameWidth) (a .f .now) p))
+    (c .before .before .before .place-in .result .value ≡ p) × ((c .text-in .result) ≡ readBy (lengthIn (e .nameWidth) (a .f .now) p)))
 named c =
     let a = c .before .before .before .before .before .before .before .before .args in
     let e = numbersOf (a .e) in
     let p = fieldPlace (e .tagged) (layoutBy (a .t2)) 6 n-value-label-names (e .nameWidth) (a .i) in
     let z = c .before .before .before .place-in .result in
     let v = place-is (a .f .now) p z (field (c .before .before .before)) (not-false (z .there) (c .before .if1 .left)) in
-    (v, c .text-in .ensures ∙ ap (lengthIn (e .nameWidth) (a .f .now)) v)
+    (v, c .text-in .ensures ∙ ap (λ (x : ℕ). readBy (lengthIn (e .nameWidth) (a .f .now) x)) v)
 
 -- .. how long it is
 long : (c : tie.Else2)
@@ -82,7 +81,7 @@ returns c =
     let e = numbersOf (a .e) in
     let o = orderBy (a .msf) in
     let z = c .before .before .before .place-in .result in
-    refused-set f (setSaid e o f l (a .i)) _ (c .no-set .ensures) (set-past e o f l (a .i) (place-past f _ z (field (c .before .before .before)) (not-true (z .there) (c .before .if1 .taken))))
+    set-as _ (refused 17) (setSaid e o f l (a .i)) (c .no-set .ensures) (set-past e o f l (a .i) (place-past f _ z (field (c .before .before .before)) (not-true (z .there) (c .before .if1 .taken))))
 
 text-in-requires : tie.Need-text-in-requires
 text-in-requires c κs = search needs
@@ -98,7 +97,7 @@ returns-2 c =
     let e = numbersOf (a .e) in
     let o = orderBy (a .msf) in
     let t = c .before .before .before .text-in .result in
-    refused-set f (setSaid e o f l (a .i)) _ (c .no-set2 .ensures) (set-none e o f l (a .i) (read-none t _ (named (c .before .before .before) .1) (not-true (t .there) (c .before .if2 .taken))))
+    set-as _ (refused 17) (setSaid e o f l (a .i)) (c .no-set2 .ensures) (set-none e o f l (a .i) (read-none t _ (named (c .before .before .before) .1) (not-true (t .there) (c .before .if2 .taken))))
 
 no-set-requires-3 : tie.Need-no-set-requires-3
 no-set-requires-3 c κs = search needs
@@ -110,7 +109,7 @@ returns-3 c =
     let l = layoutBy (a .t2) in
     let e = numbersOf (a .e) in
     let o = orderBy (a .msf) in
-    plain-set f (setSaid e o f l (a .i)) _ (c .no-set3 .ensures) (set-empty e o f l (a .i) _ (long (c .before .before .before)) (c .before .if3 .taken))
+    set-as _ (labels unlabelled) (setSaid e o f l (a .i)) (c .no-set3 .ensures) (set-empty e o f l (a .i) _ (long (c .before .before .before)) (c .before .if3 .taken))
 
 element-copy-out-less : tie.Need-element-copy-out-less
 element-copy-out-less c = search needs
@@ -134,7 +133,7 @@ returns-4 c =
     let l = layoutBy (a .t2) in
     let e = numbersOf (a .e) in
     let o = orderBy (a .msf) in
-    plain-set f (setSaid e o f l (a .i)) _ (c .no-set4 .ensures)
+    set-as _ (labels unlabelled) (setSaid e o f l (a .i)) (c .no-set4 .ensures)
     (set-over e o f l (a .i) _ (long (c .before .before .before .before .before .before .before .before)) (c .before .before .before .before .before .before .if3 .left) _ (startOf (e .tagged) l 11 n-value-labels) _ (named (c .before .before .before .before .before .before .before .before .before .before) .0) refl (ended (c .before .before .before)) (omega (arith, c .before .if4 .taken)))
 
 element-copy-out-start : tie.Need-element-copy-out-start
@@ -164,7 +163,7 @@ returns-5 c =
     let o = orderBy (a .msf) in
     let s = getD (a .t2 .places) 11 0 in
     let S = start-is (e .tagged) n-value-labels 14 s (c .before .tag-size3 .result) refl (c .before .tag-size3 .ensures) in
-    λ q t. c .find-block .ensures q t ∙ sym (set-walk e o f l (a .i) _ (long (c .before .before .before .before .before .before .before .before .before .before)) (c .before .before .before .before .before .before .before .before .if3 .left) _ (s + c .before .tag-size3 .result) _ (named (c .before .before .before .before .before .before .before .before .before .before .before .before) .0) S (ended (c .before .before .before .before .before)) q t)
+    set-as _ _ (setSaid e o f l (a .i)) (c .find-block .ensures) (set-walk e o f l (a .i) _ (long (c .before .before .before .before .before .before .before .before .before .before)) (c .before .before .before .before .before .before .before .before .if3 .left) _ (s + c .before .tag-size3 .result) _ (named (c .before .before .before .before .before .before .before .before .before .before .before .before) .0) S (ended (c .before .before .before .before .before)))
 
 pub set-in-spec : {M : Type 1} → statement M
 set-in-spec =

@@ -1,15 +1,11 @@
-use mathlib.Core.Path.{_≡_, refl, sym, ap, _∙_}
 use Rattle.checking.specs.Checks.{layoutBy}
 use Rattle.questions.specs.Ask.{answerOf, askWords}
+use Rattle.label_words.proofs.WordLaws.{words-lent}
 use Rattle.label_words.proofs.ShownLaws.{shown-refused, shown-part, shown-plain}
 use borrow.Author.Needs.{needs}
 use borrow.Author.Needs.{needs}
 use Rattle.label_words.proofs.words.Statement.{statement}
 use Rattle.label_words.proofs.words.Tie as tie
-use Rattle.label_words.proofs.words.Reads as reads
-use Rattle.label_words.proofs.words.Lts as lts
-use Rattle.label_words.proofs.label_words.Reads as label-words-reads
-use Rattle.label_words.proofs.part_at.Reads as part-at-reads
 
 -- src/lib.rt:370:9
 label-words-requires : tie.Need-label-words-requires
@@ -35,7 +31,7 @@ returns c =
     let t = a .plain .now in
     let A = answerOf f (layoutBy (a .l)) (askWords (a .i) (a .j) t) in
     let w = c .before .before .before .label-words .result in
-    let W = c .before .before .before .label-words .ensures .is t in
+    let W = words-lent f (layoutBy (a .l)) (a .i) (a .j) w (c .before .before .before .label-words .ensures) t in
     shown-refused f t w A W (c .before .if1 .taken)
 
 -- src/lib.rt:375:9
@@ -50,7 +46,7 @@ returns-2 c =
     let t = a .plain .now in
     let A = answerOf f (layoutBy (a .l)) (askWords (a .i) (a .j) t) in
     let w = c .before .before .before .before .label-words .result in
-    let W = c .before .before .before .before .label-words .ensures .is t in
+    let W = words-lent f (layoutBy (a .l)) (a .i) (a .j) w (c .before .before .before .before .label-words .ensures) t in
     shown-part f t w A W (c .before .before .if1 .left) (c .before .if2 .taken) _ (c .part-at .ensures)
 
 -- src/lib.rt:367:1
@@ -61,7 +57,7 @@ returns-3 c =
     let t = a .plain .now in
     let A = answerOf f (layoutBy (a .l)) (askWords (a .i) (a .j) t) in
     let w = c .before .before .before .label-words .result in
-    let W = c .before .before .before .label-words .ensures .is t in
+    let W = words-lent f (layoutBy (a .l)) (a .i) (a .j) w (c .before .before .before .label-words .ensures) t in
     shown-plain f t w A W (c .before .if1 .left) (c .if2 .left)
 
 pub words-spec : {M : Type 1} → statement M

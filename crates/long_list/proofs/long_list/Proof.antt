@@ -1,3 +1,4 @@
+use Rattle.long_list.proofs.OpenLaws.{opens-code}
 -- `long_list::long_list` meets its contract.
 use borrow.Author.Needs.{needs}
 use mathlib.Core.Path.{refl}
@@ -20,31 +21,31 @@ opened-requires : tie.Need-opened-requires
 opened-requires c κs = search needs
 
 returns : tie.Need-returns
-returns c = lists-refused (c .before .before .opened .ensures .code) (c .if1 .taken) refl
+returns c = lists-refused (opens-code (c .before .before .opened .ensures)) (c .if1 .taken) refl
 
 longs-count-requires : tie.Need-longs-count-requires
 longs-count-requires c κs =
     let x = c .before .before .before .before .opened .result in
     (told-room (longTeller (x .e .tagged) (orderBy (x .msf)) (x .e .«record_width»)) (ready c .stand), ready c .narrow)
 
+returns-2 : tie.Need-returns-2
+returns-2 c =
+    let r = ready (c .before .before) in
+    counted-short (c .before .longs-count .ensures) (r .stand) (r .told) (r .accepted) (omega arith)
+
 put-longs-requires : tie.Need-put-longs-requires
 put-longs-requires c κs =
     let r = ready (c .before .before .before) in
-    (counted-room (c .before .before .longs-count .ensures) (r .stand) (r .told) (omega (arith, c .before .if2 .taken)), r .narrow)
+    (counted-room (c .before .before .longs-count .ensures) (r .stand) (r .told) (omega (arith, c .before .if2 .left)), r .narrow)
 
 same-length : tie.Need-same-length
 same-length c = search needs
 
-returns-2 : tie.Need-returns-2
-returns-2 c =
-    let n = c .before .before .before .before .before in
-    let r = ready (n .before) in
-    counted-done (n .longs-count .ensures) (r .stand) (r .told) (r .accepted) (omega (arith, c .before .before .before .before .if2 .taken)) (c .before .before .put-longs .ensures)
-
 returns-3 : tie.Need-returns-3
 returns-3 c =
-    let r = ready (c .before .before) in
-    counted-short (c .before .longs-count .ensures) (r .stand) (r .told) (r .accepted) (omega arith)
+    let n = c .before .before .before .before .before in
+    let r = ready (n .before) in
+    counted-done (n .longs-count .ensures) (r .stand) (r .told) (r .accepted) (omega (arith, c .before .before .before .before .if2 .left)) (c .before .before .put-longs .ensures)
 
 pub long-list-spec : {M : Type 1} → statement M
 long-list-spec =
@@ -53,7 +54,7 @@ long-list-spec =
     opened-requires
     returns
     longs-count-requires
+    returns-2
     put-longs-requires
     same-length
-    returns-2
     returns-3)

@@ -1,6 +1,5 @@
 -- `long_list::opened` meets its contract.
 use borrow.Author.Needs.{needs}
-use mathlib.Core.Path.{refl}
 use Rattle.long_list.proofs.OpenLaws.{own, opens, not-opens, opens-all}
 use Rattle.long_list.proofs.opened.Statement.{statement}
 use Rattle.long_list.proofs.opened.Tie as tie
@@ -16,8 +15,9 @@ not-opened-requires c κs = search needs
 
 returns : tie.Need-returns
 returns c =
+    let x = c .before .before .before .before .edition-in in
     let k = c .before .before .before .before .before .before .check in
-    not-opens (k .ensures) (c .before .if1 .taken) (c .not-opened .ensures)
+    not-opens (k .ensures) (c .before .if1 .taken) (x .ensures) (c .not-opened .ensures)
 
 source-of-requires : tie.Need-source-of-requires
 source-of-requires c κs =
@@ -29,7 +29,7 @@ returns-2 : tie.Need-returns-2
 returns-2 c =
     let x = c .before .before .before .before .edition-in in
     let k = c .before .before .before .before .before .before .check in
-    opens-all refl (opens (k .ensures) (c .before .if1 .left) (x .result) (x .ensures)) (c .source-of .ensures)
+    opens-all (k .ensures) (c .before .if1 .left) (x .result) (x .ensures) _ (c .source-of .ensures)
 
 pub opened-spec : {M : Type 1} → statement M
 opened-spec = tie.close (tie.spec check-requires edition-in-requires not-opened-requires returns source-of-requires returns-2)

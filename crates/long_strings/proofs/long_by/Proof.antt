@@ -2,10 +2,11 @@ use mathlib.Core.Path.{_≡_, refl, sym, ap, _∙_, subst}
 use Rattle.format.specs.Number.{orderBy}
 use Rattle.editions.specs.Editions.{numbersOf}
 use Rattle.checking.specs.Checks.{layoutBy}
-use Rattle.walks.specs.Answers.{Longs}
+use Rattle.walks.specs.Answers as Walks
 use Rattle.cell.specs.declared.Cell.{Cell}
 use Rattle.cell.specs.Cells.{says}
 use Rattle.long_strings.specs.Longs.{longSaid}
+use Rattle.questions.specs.Ask.{long}
 use Rattle.long_strings.proofs.LongLaws.{long-alone, long-whole, long-single, long-double, long-letter, long-between, long-outside, long-words}
 use borrow.Author.Needs.{needs}
 use borrow.Author.Needs.{needs}
@@ -88,7 +89,7 @@ returns c =
     let l = layoutBy (a .l) in
     let e = numbersOf (a .e) in
     let o = orderBy (a .msf) in
-    subst (λ (k : Cell). Longs (longSaid e o f l (says k)) (c .no-long .result)) (sym (c .before .enum-told .given .1)) (long-alone _ 0 _ (c .no-long .ensures) (long-whole e o f l _))
+    subst (λ (k : Cell). (c .no-long .result) ≡ Walks.longBy (longSaid e o f l (says k))) (sym (c .before .enum-told .given .1)) (long-alone _ (long 0 0 0) _ (c .no-long .ensures) (long-whole e o f l _))
 
 -- src/lib.rt:269:1
 returns-2 : tie.Need-returns-2
@@ -98,7 +99,7 @@ returns-2 c =
     let l = layoutBy (a .l) in
     let e = numbersOf (a .e) in
     let o = orderBy (a .msf) in
-    subst (λ (k : Cell). Longs (longSaid e o f l (says k)) (c .no-long2 .result)) (sym (c .before .enum-told2 .given .1)) (long-alone _ 0 _ (c .no-long2 .ensures) (long-single e o f l _))
+    subst (λ (k : Cell). (c .no-long2 .result) ≡ Walks.longBy (longSaid e o f l (says k))) (sym (c .before .enum-told2 .given .1)) (long-alone _ (long 0 0 0) _ (c .no-long2 .ensures) (long-single e o f l _))
 
 -- src/lib.rt:269:1
 returns-3 : tie.Need-returns-3
@@ -108,7 +109,7 @@ returns-3 c =
     let l = layoutBy (a .l) in
     let e = numbersOf (a .e) in
     let o = orderBy (a .msf) in
-    subst (λ (k : Cell). Longs (longSaid e o f l (says k)) (c .no-long3 .result)) (sym (c .before .enum-told3 .given .1)) (long-alone _ 0 _ (c .no-long3 .ensures) (long-double e o f l _))
+    subst (λ (k : Cell). (c .no-long3 .result) ≡ Walks.longBy (longSaid e o f l (says k))) (sym (c .before .enum-told3 .given .1)) (long-alone _ (long 0 0 0) _ (c .no-long3 .ensures) (long-double e o f l _))
 
 -- src/lib.rt:269:1
 returns-4 : tie.Need-returns-4
@@ -118,7 +119,7 @@ returns-4 c =
     let l = layoutBy (a .l) in
     let e = numbersOf (a .e) in
     let o = orderBy (a .msf) in
-    subst (λ (k : Cell). Longs (longSaid e o f l (says k)) (c .no-long4 .result)) (sym (c .before .enum-told4 .given .1)) (long-alone _ 0 _ (c .no-long4 .ensures) (long-letter e o f l _))
+    subst (λ (k : Cell). (c .no-long4 .result) ≡ Walks.longBy (longSaid e o f l (says k))) (sym (c .before .enum-told4 .given .1)) (long-alone _ (long 0 0 0) _ (c .no-long4 .ensures) (long-letter e o f l _))
 
 -- src/lib.rt:269:1
 returns-5 : tie.Need-returns-5
@@ -128,7 +129,7 @@ returns-5 c =
     let l = layoutBy (a .l) in
     let e = numbersOf (a .e) in
     let o = orderBy (a .msf) in
-    subst (λ (k : Cell). Longs (longSaid e o f l (says k)) (c .no-long5 .result)) (sym (c .before .enum-told5 .given .1)) (long-alone _ 0 _ (c .no-long5 .ensures) (long-between e o f l))
+    subst (λ (k : Cell). (c .no-long5 .result) ≡ Walks.longBy (longSaid e o f l (says k))) (sym (c .before .enum-told5 .given .1)) (long-alone _ (long 0 0 0) _ (c .no-long5 .ensures) (long-between e o f l))
 
 -- src/lib.rt:269:1
 returns-6 : tie.Need-returns-6
@@ -138,7 +139,7 @@ returns-6 c =
     let l = layoutBy (a .l) in
     let e = numbersOf (a .e) in
     let o = orderBy (a .msf) in
-    subst (λ (k : Cell). Longs (longSaid e o f l (says k)) (c .no-long6 .result)) (sym (c .before .enum-told6 .given .1)) (long-alone _ 0 _ (c .no-long6 .ensures) (long-outside e o f l))
+    subst (λ (k : Cell). (c .no-long6 .result) ≡ Walks.longBy (longSaid e o f l (says k))) (sym (c .before .enum-told6 .given .1)) (long-alone _ (long 0 0 0) _ (c .no-long6 .ensures) (long-outside e o f l))
 
 -- src/lib.rt:269:1
 returns-7 : tie.Need-returns-7
@@ -148,7 +149,7 @@ returns-7 c =
     let l = layoutBy (a .l) in
     let e = numbersOf (a .e) in
     let o = orderBy (a .msf) in
-    subst (λ (k : Cell). Longs (longSaid e o f l (says k)) (c .no-long7 .result)) (sym (c .before .enum-told7 .given .1)) (long-alone _ 0 _ (c .no-long7 .ensures) (long-words e o f l _ _))
+    subst (λ (k : Cell). (c .no-long7 .result) ≡ Walks.longBy (longSaid e o f l (says k))) (sym (c .before .enum-told7 .given .1)) (long-alone _ (long 0 0 0) _ (c .no-long7 .ensures) (long-words e o f l _ _))
 
 -- src/lib.rt:269:1
 returns-8 : tie.Need-returns-8
@@ -158,7 +159,7 @@ returns-8 c =
     let l = layoutBy (a .l) in
     let e = numbersOf (a .e) in
     let o = orderBy (a .msf) in
-    subst (λ (k : Cell). Longs (longSaid e o f l (says k)) (c .reference-long .result)) (sym (c .before .before .c .given .1)) (c .reference-long .ensures)
+    subst (λ (k : Cell). (c .reference-long .result) ≡ Walks.longBy (longSaid e o f l (says k))) (sym (c .before .before .c .given .1)) (c .reference-long .ensures)
 
 pub long-by-spec : {M : Type 1} → statement M
 long-by-spec =

@@ -9,11 +9,10 @@ use Rattle.format.specs.Cells.{Says}
 use Rattle.questions.specs.Readings.{Try}
 use Rattle.questions.specs.Ask.{Answer, answerOf, askLong, longBy}
 use Rattle.reading.proofs.AnswerLaws.{edition-widths}
-use Rattle.walks.specs.Answers.{Longs}
+use Rattle.walks.specs.Answers as Walks
 use Rattle.long_strings.specs.Longs.{longSaid}
 use Rattle.cells.proofs.AfterLaws.{after-refused, after-said}
-use Rattle.long_strings.proofs.LongLaws.{long-refused, long-said}
-use Rattle.cells.proofs.AfterLaws.{said-of, said-refused}
+use Rattle.long_strings.proofs.LongLaws.{long-said}
 use borrow.Author.Needs.{needs}
 use borrow.Author.Needs.{needs}
 use Rattle.long_strings.proofs.long_string.Statement.{statement}
@@ -48,8 +47,7 @@ returns c =
     let r = c .before .before .before .cell-of .result in
     let R = c .before .before .before .cell-of .ensures in
     let k : Edition → Order → Says → Try Answer = λ e o. longBy e o f l in
-    long-refused (answerOf f l (askLong (a .i) (a .j))) (r .code) (c .before .if1 .taken) _ (c .no-long .ensures)
-    (after-refused f l (a .i) (a .j) q Q (askLong (a .i) (a .j)) k refl (λ e o. refl) (r .code) (said-refused r _ (c .before .if1 .taken) (R .is)))
+    c .no-long .ensures ∙ ap Walks.longBy (after-refused f l (a .i) (a .j) q Q (askLong (a .i) (a .j)) k refl (λ e o. refl) R (c .before .if1 .taken))
 
 -- src/lib.rt:295:5
 long-by-requires : tie.Need-long-by-requires
@@ -63,7 +61,7 @@ long-by-requires c κs =
     let R = c .before .before .cell-of .ensures in
     let k : Edition → Order → Says → Try Answer = λ e o. longBy e o f l in
     let z = c .if1 .left in
-    let s = after-said f l (a .i) (a .j) q Q (askLong (a .i) (a .j)) k refl (λ e o. refl) (says (r .cell)) (said-of r _ z (R .is)) in
+    let s = after-said f l (a .i) (a .j) q Q (askLong (a .i) (a .j)) k refl (λ e o. refl) R z in
     let W = edition-widths (l .release) (l .order) q Q (s .0) in
     omega (arith, W .records)
 
@@ -79,8 +77,8 @@ returns-2 c =
     let R = c .before .before .before .cell-of .ensures in
     let k : Edition → Order → Says → Try Answer = λ e o. longBy e o f l in
     let z = c .before .if1 .left in
-    let s = after-said f l (a .i) (a .j) q Q (askLong (a .i) (a .j)) k refl (λ e o. refl) (says (r .cell)) (said-of r _ z (R .is)) in
-    subst (λ (y : Answer). Longs y (c .long-by .result)) (sym (s .1 ∙ long-said (numbersOf (q .e)) (orderBy (q .msf)) f l (says (r .cell)))) (c .long-by .ensures)
+    let s = after-said f l (a .i) (a .j) q Q (askLong (a .i) (a .j)) k refl (λ e o. refl) R z in
+    c .long-by .ensures ∙ ap Walks.longBy (sym (s .1 ∙ long-said (numbersOf (q .e)) (orderBy (q .msf)) f l (says (r .cell))))
 
 pub long-string-spec : {M : Type 1} → statement M
 long-string-spec =

@@ -6,9 +6,9 @@ use Rattle.format.specs.Number.{orderBy}
 use Rattle.format.specs.Edition.{n-strls}
 use Rattle.format.specs.Cells.{reference}
 use Rattle.editions.specs.Editions.{numbersOf}
-use Rattle.questions.specs.Ask.{Answer, startOf, endOf}
+use Rattle.questions.specs.Ask.{refused, long, orRefused, startOf, endOf}
 use Rattle.checking.specs.Checks.{layoutBy}
-use Rattle.walks.specs.Answers.{Longs}
+use Rattle.walks.specs.Walks.{recordsFrom}
 use Rattle.long_strings.specs.Longs.{longSaid}
 use Rattle.reading.proofs.PlaceLaws.{start-is}
 use Rattle.long_strings.proofs.LongLaws.{long-alone, long-empty, long-walk, long-past, long-out}
@@ -44,7 +44,7 @@ returns c =
     let v = a .v in
     let x = a .x in
     let A = longSaid e o f l (reference v x) in
-    long-alone A 0 _ (c .no-long .ensures) (long-empty e o f l v x (sym (c .before .before .is-empty .ensures) ∙ c .before .if1 .taken))
+    long-alone A (long 0 0 0) _ (c .no-long .ensures) (long-empty e o f l v x (sym (c .before .before .is-empty .ensures) ∙ c .before .if1 .taken))
 
 -- src/lib.rt:266:20
 element-copy-out-less : tie.Need-element-copy-out-less
@@ -80,7 +80,7 @@ returns-2 c =
     let h = sym (c .before .before .before .before .before .before .before .is-empty .ensures) ∙ c .before .before .before .before .before .before .if1 .left in
     let z = c .before .before .before .less .result in
     let Z : z ≡ endOf (e .tagged) l 10 n-strls = end-is (e .tagged) n-strls 8 (getD (a .t2 .places) 11 0) (c .before .before .before .before .tag-size .result) z refl (c .before .before .before .before .tag-size .ensures) (c .before .before .before .less .ensures .0) in
-    long-alone A 17 _ (c .no-long2 .ensures) (long-past e o f l v x h (startOf (e .tagged) l 10 n-strls) z refl Z (omega (arith, c .before .if2 .taken)))
+    long-alone A (refused 17) _ (c .no-long2 .ensures) (long-past e o f l v x h (startOf (e .tagged) l 10 n-strls) z refl Z (omega (arith, c .before .if2 .taken)))
 
 -- src/lib.rt:270:14
 element-copy-out-p : tie.Need-element-copy-out-p
@@ -127,7 +127,7 @@ returns-3 c =
     let Z : z ≡ endOf (e .tagged) l 10 n-strls = end-is (e .tagged) n-strls 8 (getD (a .t2 .places) 11 0) (c .before .before .before .before .before .before .before .tag-size .result) z refl (c .before .before .before .before .before .before .before .tag-size .ensures) (c .before .before .before .before .before .before .less .ensures .0) in
     let p = getD (a .t2 .places) 10 0 + c .before .before .tag-size2 .result in
     let P : p ≡ startOf (e .tagged) l 10 n-strls = start-is (e .tagged) n-strls 7 (getD (a .t2 .places) 10 0) (c .before .before .tag-size2 .result) refl (c .before .before .tag-size2 .ensures) in
-    long-alone A 17 _ (c .no-long3 .ensures) (long-out e o f l v x h p z P Z (c .before .if3 .taken))
+    long-alone A (refused 17) _ (c .no-long3 .ensures) (long-out e o f l v x h p z P Z (c .before .if3 .taken))
 
 -- src/lib.rt:274:5
 records-requires : tie.Need-records-requires
@@ -149,7 +149,7 @@ returns-4 c =
     let Z : z ≡ endOf (e .tagged) l 10 n-strls = end-is (e .tagged) n-strls 8 (getD (a .t2 .places) 11 0) (c .before .before .before .before .before .before .before .tag-size .result) z refl (c .before .before .before .before .before .before .before .tag-size .ensures) (c .before .before .before .before .before .before .less .ensures .0) in
     let p = getD (a .t2 .places) 10 0 + c .before .before .tag-size2 .result in
     let P : p ≡ startOf (e .tagged) l 10 n-strls = start-is (e .tagged) n-strls 7 (getD (a .t2 .places) 10 0) (c .before .before .tag-size2 .result) refl (c .before .before .tag-size2 .ensures) in
-    subst (λ (y : Answer). Longs y (c .records .result)) (sym (long-walk e o f l v x h p z P Z)) (c .records .ensures)
+    long-alone A (orRefused (recordsFrom (e .recordWidth) o f v x z p)) _ (c .records .ensures) (sym (long-walk e o f l v x h p z P Z))
 
 pub reference-long-spec : {M : Type 1} → statement M
 reference-long-spec =

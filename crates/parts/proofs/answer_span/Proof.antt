@@ -50,28 +50,28 @@ enum-known-a-3 : tie.Need-enum-known-a-3
 enum-known-a-3 c = search needs
 
 returns : tie.Need-returns
-returns c f = c .nowhere .ensures f ∙ sym (ap (λ (k : Answer). shown f (answerBy [] k)) (c .before .enum-told .given .1))
+returns c f = c .nowhere .ensures f ∙ sym (ap (λ (k : Answer). shown f (answerBy k)) (c .before .enum-told .given .1))
 
 returns-2 : tie.Need-returns-2
-returns-2 c f = c .nowhere2 .ensures f ∙ sym (ap (λ (k : Answer). shown f (answerBy [] k)) (c .before .enum-told2 .given .1))
+returns-2 c f = c .nowhere2 .ensures f ∙ sym (ap (λ (k : Answer). shown f (answerBy k)) (c .before .enum-told2 .given .1))
 
 returns-3 : tie.Need-returns-3
-returns-3 c f = c .nowhere3 .ensures f ∙ sym (ap (λ (k : Answer). shown f (answerBy [] k)) (c .before .enum-told3 .given .1))
+returns-3 c f = c .nowhere3 .ensures f ∙ sym (ap (λ (k : Answer). shown f (answerBy k)) (c .before .enum-told3 .given .1))
 
 returns-4 : tie.Need-returns-4
-returns-4 c f = c .nowhere4 .ensures f ∙ sym (ap (λ (k : Answer). shown f (answerBy [] k)) (c .before .enum-told4 .given .1))
+returns-4 c f = c .nowhere4 .ensures f ∙ sym (ap (λ (k : Answer). shown f (answerBy k)) (c .before .enum-told4 .given .1))
 
 returns-5 : tie.Need-returns-5
-returns-5 c f = sym (ap (λ (k : Answer). shown f (answerBy [] k)) (c .before .a .given .1))
+returns-5 c f = sym (ap (λ (k : Answer). shown f (answerBy k)) (c .before .a .given .1))
 
 returns-6 : tie.Need-returns-6
-returns-6 c f = c .cell-span .ensures f ∙ sym (ap (λ (k : Answer). shown f (answerBy [] k)) (c .before .before .a2 .given .1))
+returns-6 c f = c .cell-span .ensures f ∙ sym (ap (λ (k : Answer). shown f (answerBy k)) (c .before .before .a2 .given .1))
 
 returns-7 : tie.Need-returns-7
-returns-7 c f = c .nowhere5 .ensures f ∙ sym (ap (λ (k : Answer). shown f (answerBy [] k)) (c .before .enum-told5 .given .1))
+returns-7 c f = c .nowhere5 .ensures f ∙ sym (ap (λ (k : Answer). shown f (answerBy k)) (c .before .enum-told5 .given .1))
 
 returns-8 : tie.Need-returns-8
-returns-8 c f = sym (ap (λ (k : Answer). shown f (answerBy [] k)) (c .before .a3 .given .1))
+returns-8 c f = sym (ap (λ (k : Answer). shown f (answerBy k)) (c .before .a3 .given .1))
 
 pub answer-span-spec : {M : Type 1} → statement M
 answer-span-spec =

@@ -1,5 +1,6 @@
 use borrow.Author.Needs.{needs}
-use mathlib.Core.Path.{sym, _∙_}
+use mathlib.Core.Path.{sym, _∙_, ap}
+use Rattle.reading.specs.Reads.{readBy}
 use native.Mathlib.Omega.{arith}
 use Prim.Native.Nat.{_+_, _-_, _*_, _<_}
 use lib.ListN.{length}
@@ -23,7 +24,7 @@ returns c =
     let a = c .before .before .before .args in
     let f = a .f .now in
     let p = a .start + a .gap + a .index * a .width in
-    rw (c .no-read .ensures) (sym (place-none f p (omega arith)))
+    c .no-read .ensures ∙ ap readBy (sym (place-none f p (omega arith)))
 
 -- src/lib.rt:96:9
 no-read-requires-2 : tie.Need-no-read-requires-2
@@ -35,7 +36,7 @@ returns-2 c =
     let a = c .before .before .before .before .args in
     let f = a .f .now in
     let p = a .start + a .gap + a .index * a .width in
-    rw (c .no-read2 .ensures) (sym (place-none f p (omega arith)))
+    c .no-read2 .ensures ∙ ap readBy (sym (place-none f p (omega arith)))
 
 -- src/lib.rt:98:8
 product-within-requires : tie.Need-product-within-requires
@@ -78,7 +79,7 @@ returns-3 c =
     let f = a .f .now in
     let p = a .start + a .gap + a .index * a .width in
     let h = leb-true (a .index * a .width) (length f - a .start - a .gap) (sym (c .before .product-within .ensures) ∙ c .if3 .taken) in
-    sym (place-got f p (omega arith))
+    ap readBy (sym (place-got f p (omega arith)))
 
 -- src/lib.rt:104:5
 no-read-requires-3 : tie.Need-no-read-requires-3
@@ -91,7 +92,7 @@ returns-4 c =
     let f = a .f .now in
     let p = a .start + a .gap + a .index * a .width in
     let h = leb-false (a .index * a .width) (length f - a .start - a .gap) (sym (c .before .before .product-within .ensures) ∙ c .before .if3 .left) in
-    rw (c .no-read3 .ensures) (sym (place-none f p (omega arith)))
+    c .no-read3 .ensures ∙ ap readBy (sym (place-none f p (omega arith)))
 
 pub place-in-spec : {M : Type 1} → statement M
 place-in-spec =

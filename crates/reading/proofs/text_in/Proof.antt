@@ -1,5 +1,6 @@
 use borrow.Author.Needs.{needs}
-use mathlib.Core.Path.{sym}
+use mathlib.Core.Path.{sym, ap, _∙_}
+use Rattle.reading.specs.Reads.{readBy}
 use native.Mathlib.Omega.{arith}
 use Prim.Native.Nat.{_-_}
 use lib.ListN.{length}
@@ -22,7 +23,7 @@ returns : tie.Need-returns
 returns c =
     let a = c .before .before .before .args in
     let f = a .f .now in
-    rw (c .no-read .ensures) (sym (length-past (a .w) f (a .p) (omega arith)))
+    c .no-read .ensures ∙ ap readBy (sym (length-past (a .w) f (a .p) (omega arith)))
 
 -- src/lib.rt:57:22
 sub-least : tie.Need-sub-least
@@ -48,21 +49,21 @@ returns-2 : tie.Need-returns-2
 returns-2 c =
     let a = c .before .before .before .before .before .before .before .args in
     let f = a .f .now in
-    rw (c .no-read2 .ensures) (sym (length-cut (a .w) f (a .p) (omega arith) _ (c .before .before .before .before .least .ensures) _ (c .before .before .before .text-len .ensures) (c .before .before .if2 .taken) (c .before .if3 .taken)))
+    c .no-read2 .ensures ∙ ap readBy (sym (length-cut (a .w) f (a .p) (omega arith) _ (c .before .before .before .before .least .ensures) _ (c .before .before .before .text-len .ensures) (c .before .before .if2 .taken) (c .before .if3 .taken)))
 
 -- src/lib.rt:50:1
 returns-3 : tie.Need-returns-3
 returns-3 c =
     let a = c .before .before .before .before .before .before .args in
     let f = a .f .now in
-    sym (length-whole (a .w) f (a .p) (omega arith) _ (c .before .before .before .least .ensures) _ (c .before .before .text-len .ensures) (c .before .if2 .taken) (c .if3 .left))
+    ap readBy (sym (length-whole (a .w) f (a .p) (omega arith) _ (c .before .before .before .least .ensures) _ (c .before .before .text-len .ensures) (c .before .if2 .taken) (c .if3 .left)))
 
 -- src/lib.rt:50:1
 returns-4 : tie.Need-returns-4
 returns-4 c =
     let a = c .before .before .before .before .before .args in
     let f = a .f .now in
-    sym (length-ends (a .w) f (a .p) (omega arith) _ (c .before .before .least .ensures) _ (c .before .text-len .ensures) (c .if2 .left))
+    ap readBy (sym (length-ends (a .w) f (a .p) (omega arith) _ (c .before .before .least .ensures) _ (c .before .text-len .ensures) (c .if2 .left)))
 
 pub text-in-spec : {M : Type 1} → statement M
 text-in-spec =

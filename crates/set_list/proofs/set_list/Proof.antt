@@ -1,3 +1,4 @@
+use Rattle.long_list.proofs.OpenLaws.{opens-code}
 -- `set_list::set_list` meets its contract.
 use mathlib.Core.Path.{refl}
 use native.Mathlib.Omega.{arith}
@@ -20,7 +21,7 @@ opened-requires : tie.Need-opened-requires
 opened-requires c κs = search needs
 
 returns : tie.Need-returns
-returns c = lists-refused (c .before .before .opened .ensures .code) (c .if1 .taken) refl
+returns c = lists-refused (opens-code (c .before .before .opened .ensures)) (c .if1 .taken) refl
 
 sets-count-requires : tie.Need-sets-count-requires
 sets-count-requires c κs =

@@ -1,3 +1,4 @@
+use Rattle.long_list.proofs.OpenLaws.{opens-code}
 -- `sort_order::sort_order` meets its contract.
 use mathlib.Core.Path.{refl}
 use Prim.Native.Nat.{_+_}
@@ -21,7 +22,7 @@ opened-requires : tie.Need-opened-requires
 opened-requires c κs = search needs
 
 returns : tie.Need-returns
-returns c = lists-refused (c .before .before .opened .ensures .code) (c .if1 .taken) refl
+returns c = lists-refused (opens-code (c .before .before .opened .ensures)) (c .if1 .taken) refl
 
 add-sort-count : tie.Need-add-sort-count
 add-sort-count c = omega (arith, ready (c .before) .few)
@@ -29,21 +30,21 @@ add-sort-count c = omega (arith, ready (c .before) .few)
 sort-count-requires : tie.Need-sort-count-requires
 sort-count-requires c κs = ready (c .before) .inside
 
+returns-2 : tie.Need-returns-2
+returns-2 c = sorted-short (ready (c .before .before .before)) (c .before .sort-count .ensures) (omega arith)
+
 put-numbers-requires : tie.Need-put-numbers-requires
 put-numbers-requires c κs =
     let n = c .before .before in
-    (sorted-inside (ready (n .before .before)) (n .sort-count .ensures), omega (arith, c .before .if2 .taken))
+    (sorted-inside (ready (n .before .before)) (n .sort-count .ensures), omega (arith, c .before .if2 .left))
 
 same-length : tie.Need-same-length
 same-length c = search needs
 
-returns-2 : tie.Need-returns-2
-returns-2 c =
-    let n = c .before .before .before .before .before in
-    sorted-done (ready (n .before .before)) (n .sort-count .ensures) (omega (arith, c .before .before .before .before .if2 .taken)) (c .before .before .put-numbers .ensures)
-
 returns-3 : tie.Need-returns-3
-returns-3 c = sorted-short (ready (c .before .before .before)) (c .before .sort-count .ensures) (omega arith)
+returns-3 c =
+    let n = c .before .before .before .before .before in
+    sorted-done (ready (n .before .before)) (n .sort-count .ensures) (omega (arith, c .before .before .before .before .if2 .left)) (c .before .before .put-numbers .ensures)
 
 pub sort-order-spec : {M : Type 1} → statement M
 sort-order-spec =
@@ -53,7 +54,7 @@ sort-order-spec =
     returns
     add-sort-count
     sort-count-requires
+    returns-2
     put-numbers-requires
     same-length
-    returns-2
     returns-3)

@@ -12,8 +12,9 @@ use mathlib.Core.Path.{_≡_, sym, ap, _∙_}
 use native.Mathlib.Omega.{arith}
 use lib.ListN.{getD, length}
 use Rattle.format.specs.Slot.{Bytes}
+use Rattle.answers.specs.declared.Part.{Part}
 use Rattle.format.specs.Edition.{n-variable-types, n-varnames, n-sortlist, n-formats, n-value-label-names, n-variable-labels, n-data, n-strls, n-value-labels}
-use Rattle.sources.proofs.HeadParts.{place-small, longs-tag, blocks-tag, label-part, stamp-part, started, ended, end-room, k-own, n-own}
+use Rattle.sources.proofs.HeadParts.{place-small, longs-tag, blocks-tag, label-told, label-part, stamp-told, stamp-part, started, ended, end-room, k-own, n-own}
 
 label-requires : tie.Need-label-requires
 label-requires c κs = search needs
@@ -117,7 +118,9 @@ returns c =
       longs-end = ended f u l own e m op 11 n-strls _ (c .before .before .end .ensures);
       blocks = started f u l own e m op 11 n-value-labels _ (c .before .start9 .ensures);
       blocks-end = ended f u l own e m op 12 n-value-labels _ (c .end2 .ensures);
+      label-place = ap (λ (x : Part). x .at) (label-told f u l own (c .before .before .before .before .before .before .before .before .before .before .before .before .label .result) (c .before .before .before .before .before .before .before .before .before .before .before .before .label .ensures));
       label = label-part f u l own (c .before .before .before .before .before .before .before .before .before .before .before .before .label .result) (c .before .before .before .before .before .before .before .before .before .before .before .before .label .ensures);
+      stamp-place = ap (λ (x : Part). x .at) (stamp-told f u l own (c .before .before .before .before .before .before .before .before .before .before .before .stamp .result) (c .before .before .before .before .before .before .before .before .before .before .before .stamp .ensures));
       stamp = stamp-part f u l own (c .before .before .before .before .before .before .before .before .before .before .before .stamp .result) (c .before .before .before .before .before .before .before .before .before .before .before .stamp .ensures);
     }
 

@@ -1,9 +1,8 @@
 use borrow.Author.Needs.{needs}
 use mathlib.Core.Path.{sym, ap, _∙_}
-use Rattle.questions.specs.Ask.{isDate, mark}
+use mathlib.Core.Bool.{Bool}
+use Rattle.questions.specs.Ask.{isDate}
 use Rattle.checking.specs.Checks.{layoutBy}
-use Rattle.answers.proofs.TellLaws.{tells-as, part-code, part-place}
-use Rattle.text_facts.proofs.DateLaws.{mark-refused, mark-told}
 use Rattle.text_facts.proofs.DateLaws.{dated, date-refused, date-marked}
 use Rattle.answers.proofs.PartLaws.{bytes-inside}
 use borrow.Author.Needs.{needs}
@@ -32,8 +31,8 @@ returns c =
     let l = layoutBy (a .l) in
     let D = dated f l (a .i) in
     let p = c .before .before .before .format .result in
-    let P = c .before .before .before .format .ensures .is in
-    tells-as (sym (date-refused D (p .code) (sym P ∙ part-code p (c .before .if1 .taken)))) (mark-refused (p .code) (c .before .if1 .taken) (c .no-mark .ensures))
+    let P = c .before .before .before .format .ensures in
+    c .no-mark .ensures ∙ sym (date-refused P D (c .before .if1 .taken))
 
 -- src/lib.rt:362:22
 part-of-requires : tie.Need-part-of-requires
@@ -51,10 +50,10 @@ returns-2 c =
     let l = layoutBy (a .l) in
     let D = dated f l (a .i) in
     let p = c .before .before .before .before .format .result in
-    let P = c .before .before .before .before .format .ensures .is in
-    let m = date-marked D (p .at) (p .len) (sym P ∙ part-place p (c .before .before .if1 .left)) in
+    let P = c .before .before .before .before .format .ensures in
+    let m = date-marked P D (c .before .before .if1 .left) in
     let b = c .is-date .ensures ∙ ap isDate (c .before .part-of .ensures ∙ bytes-inside (p .code) f (p .at) (p .len) (c .before .before .if1 .left) (m .0)) in
-    tells-as (ap mark b ∙ sym (m .1)) (mark-told _)
+    ap (λ (y : Bool). record { code = 0; yes = y }) b ∙ sym (m .1)
 
 pub date-mark-spec : {M : Type 1} → statement M
 date-mark-spec =

@@ -8,9 +8,10 @@ use Rattle.format.specs.Number.{orderBy}
 use Rattle.questions.specs.Ask.{askSort, sortIn, place, startOf}
 use Rattle.format.specs.Edition.{n-sortlist}
 use Rattle.checking.specs.Checks.{layoutBy}
-use Rattle.reading.specs.Reads.{tryOf, placeIn}
+use Rattle.reading.specs.Reads.{readBy, placeIn}
 use Rattle.reading.proofs.ReadLaws.{place-is, place-inside}
-use Rattle.answers.proofs.TellLaws.{tells-answer, tells-read, number-refused, number-none, reads}
+use Rattle.answers.specs.Answers.{numberBy}
+use Rattle.answers.proofs.TellLaws.{tells-answer, tells-open-at, number-refused, number-none, reads}
 use Rattle.reading.proofs.PlaceLaws.{list-start}
 use Rattle.variable_facts.proofs.SortLaws.{sort-past, numberTold}
 use borrow.Author.Needs.{needs}
@@ -52,7 +53,7 @@ returns c =
     let r = c .before .before .before .before .edition-in .result in
     let E = c .before .before .before .before .edition-in .ensures in
     let C = c .before .before .refusal .ensures ∙ ap (λ (b : Bool). cond b (cond (r .there) 0 17) 16) (c .before .before .before .is-among .ensures) in
-    tells-answer f l q r E (c .before .before .refusal .result) C (reads f l q r E) refl (number-refused _ (reads f l q r E) (c .before .if1 .taken) (c .no-number .ensures))
+    tells-answer f l q r E numberBy (c .before .before .refusal .result) C (reads f l q r E) refl (number-refused _ (reads f l q r E) (c .before .if1 .taken) (c .no-number .ensures))
 
 -- src/lib.rt:402:34
 element-copy-out-place-in : tie.Need-element-copy-out-place-in
@@ -82,8 +83,8 @@ returns-2 c =
     let C = c .before .before .before .before .before .before .before .refusal .ensures ∙ ap (λ (b : Bool). cond b (cond (r .there) 0 17) 16) (c .before .before .before .before .before .before .before .before .is-among .ensures) in
     let o = orderBy (r .msf) in
     let p = startOf (r .e .tagged) l 4 n-sortlist in
-    let A : tryOf (c .before .before .before .place-in .result) ≡ placeIn f p = c .before .before .before .place-in .ensures ∙ ap (placeIn f) (list-start (r .e .tagged) n-sortlist 10 (place l 4) _ 2 refl (c .before .before .before .before .tag-size .ensures)) in
-    tells-answer f l q r E (c .before .before .before .before .before .before .before .refusal .result) C (reads f l q r E) refl (number-none _ (reads f l q r E) (c .before .before .before .before .before .before .if1 .left) (ap numberTold (sort-past o f (a .i) (l .variables) p (c .before .before .before .place-in .result) A (not-true (c .before .before .before .place-in .result .there) (c .before .if2 .taken)))) (c .no-number2 .ensures))
+    let A : (c .before .before .before .place-in .result) ≡ readBy (placeIn f p) = c .before .before .before .place-in .ensures ∙ ap (λ (x : ℕ). readBy (placeIn f x)) (list-start (r .e .tagged) n-sortlist 10 (place l 4) _ 2 refl (c .before .before .before .before .tag-size .ensures)) in
+    tells-answer f l q r E numberBy (c .before .before .before .before .before .before .before .refusal .result) C (reads f l q r E) refl (number-none _ (reads f l q r E) (c .before .before .before .before .before .before .if1 .left) (ap numberTold (sort-past o f (a .i) (l .variables) p (c .before .before .before .place-in .result) A (not-true (c .before .before .before .place-in .result .there) (c .before .if2 .taken)))) (c .no-number2 .ensures))
 
 -- src/lib.rt:406:5
 sort-find-requires : tie.Need-sort-find-requires
@@ -97,7 +98,7 @@ sort-find-requires c κs =
     let C = c .before .before .before .before .before .before .refusal .ensures ∙ ap (λ (b : Bool). cond b (cond (r .there) 0 17) 16) (c .before .before .before .before .before .before .before .is-among .ensures) in
     let o = orderBy (r .msf) in
     let p = startOf (r .e .tagged) l 4 n-sortlist in
-    let A : tryOf (c .before .before .place-in .result) ≡ placeIn f p = c .before .before .place-in .ensures ∙ ap (placeIn f) (list-start (r .e .tagged) n-sortlist 10 (place l 4) _ 2 refl (c .before .before .before .tag-size .ensures)) in
+    let A : (c .before .before .place-in .result) ≡ readBy (placeIn f p) = c .before .before .place-in .ensures ∙ ap (λ (x : ℕ). readBy (placeIn f x)) (list-start (r .e .tagged) n-sortlist 10 (place l 4) _ 2 refl (c .before .before .before .tag-size .ensures)) in
     let h = not-false (c .before .before .place-in .result .there) (c .if2 .left) in
     subst (λ (x : ℕ). x ≤ length f) (sym (place-is f p (c .before .before .place-in .result) A h)) (place-inside f p (c .before .before .place-in .result) A h)
 
@@ -113,9 +114,9 @@ returns-3 c =
     let C = c .before .before .before .before .before .before .before .refusal .ensures ∙ ap (λ (b : Bool). cond b (cond (r .there) 0 17) 16) (c .before .before .before .before .before .before .before .before .is-among .ensures) in
     let o = orderBy (r .msf) in
     let p = startOf (r .e .tagged) l 4 n-sortlist in
-    let A : tryOf (c .before .before .before .place-in .result) ≡ placeIn f p = c .before .before .before .place-in .ensures ∙ ap (placeIn f) (list-start (r .e .tagged) n-sortlist 10 (place l 4) _ 2 refl (c .before .before .before .before .tag-size .ensures)) in
+    let A : (c .before .before .before .place-in .result) ≡ readBy (placeIn f p) = c .before .before .before .place-in .ensures ∙ ap (λ (x : ℕ). readBy (placeIn f x)) (list-start (r .e .tagged) n-sortlist 10 (place l 4) _ 2 refl (c .before .before .before .before .tag-size .ensures)) in
     let h = not-false (c .before .before .before .place-in .result .there) (c .before .if2 .left) in
-    tells-read f l q r E (c .before .before .before .before .before .before .before .refusal .result) C (c .before .before .before .before .before .before .if1 .left) (numberTold (sortIn o f (a .i) (suc (l .variables)) 0 (c .before .before .before .place-in .result .value))) (ap (λ (x : ℕ). numberTold (sortIn o f (a .i) (suc (l .variables)) 0 x)) (place-is f p (c .before .before .before .place-in .result) A h)) (c .sort-find .ensures)
+    tells-open-at f l q r E numberBy (c .before .before .before .before .before .before .before .refusal .result) C (c .before .before .before .before .before .before .if1 .left) (numberTold (sortIn o f (a .i) (suc (l .variables)) 0 (c .before .before .before .place-in .result .value))) (ap (λ (x : ℕ). numberTold (sortIn o f (a .i) (suc (l .variables)) 0 x)) (place-is f p (c .before .before .before .place-in .result) A h)) (c .sort-find .ensures)
 
 pub sort-place-spec : {M : Type 1} → statement M
 sort-place-spec =

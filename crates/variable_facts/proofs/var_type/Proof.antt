@@ -6,8 +6,9 @@ use Rattle.format.specs.Number.{orderBy}
 use Rattle.format.specs.Edition.{codeWidth, n-variable-types}
 use Rattle.questions.specs.Ask.{askType, typeIn, place}
 use Rattle.checking.specs.Checks.{layoutBy}
-use Rattle.answers.proofs.TellLaws.{answer-by, read-is, reads}
-use Rattle.variable_facts.proofs.TypeLaws.{type-as, type-refused}
+use Rattle.variable_facts.specs.Types.{typedBy}
+use Rattle.answers.proofs.TellLaws.{tells-answer, tells-open-at, reads}
+use Rattle.variable_facts.proofs.TypeLaws.{type-refused}
 use Rattle.reading.proofs.PlaceLaws.{list-place}
 use Rattle.variable_facts.proofs.TypeLaws.{typeTold}
 use borrow.Author.Needs.{needs}
@@ -49,7 +50,7 @@ returns c =
     let r = c .before .before .before .before .edition-in .result in
     let E = c .before .before .before .before .edition-in .ensures in
     let C = c .before .before .refusal .ensures ∙ ap (λ (b : Bool). cond b (cond (r .there) 0 17) 16) (c .before .before .before .is-among .ensures) in
-    type-as (sym (answer-by f l q r E _ C)) (type-refused _ (reads f l q r E) (c .before .if1 .taken) (c .no-type .ensures))
+    tells-answer f l q r E typedBy _ C (reads f l q r E) refl (type-refused _ (reads f l q r E) (c .before .if1 .taken) (c .no-type .ensures))
 
 -- src/lib.rt:321:19
 element-copy-out-type-field : tie.Need-element-copy-out-type-field
@@ -78,7 +79,7 @@ returns-2 c =
     let E = c .before .before .before .before .before .before .before .edition-in .ensures in
     let C = c .before .before .before .before .before .refusal .ensures ∙ ap (λ (b : Bool). cond b (cond (r .there) 0 17) 16) (c .before .before .before .before .before .before .is-among .ensures) in
     let k = list-place (r .e .tagged) n-variable-types 16 (place l 2) _ _ _ (codeWidth (r .e .tagged)) refl (c .before .before .tag-size .ensures) (c .before .less .ensures .0) in
-    type-as (read-is f l q r E _ C (c .before .before .before .before .if1 .left) _ (ap (λ (p : ℕ). typeTold (typeIn (r .e .tagged) (orderBy (r .msf)) f p)) k)) (c .type-field .ensures)
+    tells-open-at f l q r E typedBy _ C (c .before .before .before .before .if1 .left) _ (ap (λ (p : ℕ). typeTold (typeIn (r .e .tagged) (orderBy (r .msf)) f p)) k) (c .type-field .ensures)
 
 pub var-type-spec : {M : Type 1} → statement M
 var-type-spec =

@@ -40,7 +40,7 @@ named c =
 loop-holds : tie.Need-loop-holds Inv-loop μ-loop
 loop-holds c =
     let a = c .before .args in
-    starts (a .tagged) (a .w) (a .msf) (a .f .now) (slice (a .f .now) (a .a) (a .m)) (a .end) (a .start)
+    starts (a .tagged) (a .w) (orderBy (a .msf)) (a .f .now) (slice (a .f .now) (a .a) (a .m)) (a .end) (a .start)
 
 block-at-requires : tie.Need-block-at-requires Inv-loop μ-loop
 block-at-requires c κs = search needs
@@ -52,7 +52,7 @@ returns : tie.Need-returns Inv-loop μ-loop
 returns c =
     let a = c .before .before .before .before .before .before .before .args in
     let l = c .before .before .before .before .before .loop in
-    come-gone (a .tagged) (a .w) (a .msf) (a .f .now) (slice (a .f .now) (a .a) (a .m)) (a .end) (a .start) (l .p) (l .inv) (c .before .before .before .before .loop-test .taken)
+    come-gone (a .tagged) (a .w) (orderBy (a .msf)) (a .f .now) (slice (a .f .now) (a .a) (a .m)) (a .end) (a .start) (l .p) (l .inv) (c .before .before .before .before .loop-test .taken)
     (c .before .before .before .block-at .ensures .gone (not-true (c .before .before .before .block-at .result .there) (c .before .if1 .taken))) _ (c .no-set .ensures)
 
 open-size-requires : tie.Need-open-size-requires Inv-loop μ-loop
@@ -78,7 +78,7 @@ returns-2 c =
     let a = c .before .before .before .before .before .before .before .before .before .args in
     let l = c .before .before .before .before .before .before .before .loop in
     let b = c .before .before .before .before .before .block-at .result in
-    come-here (a .tagged) (a .w) (a .msf) (a .f .now) (slice (a .f .now) (a .a) (a .m)) (a .end) (a .start) (l .p) (l .inv) (c .before .before .before .before .before .before .loop-test .taken)
+    come-here (a .tagged) (a .w) (orderBy (a .msf)) (a .f .now) (slice (a .f .now) (a .a) (a .m)) (a .end) (a .start) (l .p) (l .inv) (c .before .before .before .before .before .before .loop-test .taken)
     (b .table) (b .name) (whole (c .before .before)) (sym (c .if2 .taken) ∙ named (c .before)) _ (omega (arith, c .before .before .open-size .ensures .0))
 
 add-p : tie.Need-add-p Inv-loop μ-loop
@@ -109,7 +109,7 @@ loop-again c =
     let b = c .before .before .before .before .before .before .before .block-at .result in
     let e : tableAt t w (l .p) + b .table + closeSize t ≡ l .p + c .before .before .before .before .open-size .result + (7 + w) + b .table + c .close-size .result = omega (arith, c .before .before .before .before .open-size .ensures .0, c .close-size .ensures .0) in
     subst (λ (x : ℕ). Come t w (orderBy (a .msf)) (a .f .now) s (a .end) (a .start) x) e
-    (come-on t w (a .msf) (a .f .now) s (a .end) (a .start) (l .p) (l .inv) (c .before .before .before .before .before .before .before .before .loop-test .taken) (b .table) (b .name) (whole (c .before .before .before .before)) (sym (c .before .before .if2 .left) ∙ named (c .before .before .before)))
+    (come-on t w (orderBy (a .msf)) (a .f .now) s (a .end) (a .start) (l .p) (l .inv) (c .before .before .before .before .before .before .before .before .loop-test .taken) (b .table) (b .name) (whole (c .before .before .before .before)) (sym (c .before .before .if2 .left) ∙ named (c .before .before .before)))
 
 no-set-requires-2 : tie.Need-no-set-requires-2 Inv-loop μ-loop
 no-set-requires-2 c κs = search needs
@@ -118,7 +118,7 @@ returns-3 : tie.Need-returns-3 Inv-loop μ-loop
 returns-3 c =
     let a = c .before .before .before .before .args in
     let l = c .before .before .loop in
-    come-plain (a .tagged) (a .w) (a .msf) (a .f .now) (slice (a .f .now) (a .a) (a .m)) (a .end) (a .start) (l .p) (l .inv) (c .before .loop-test .left) _ (c .no-set2 .ensures)
+    come-plain (a .tagged) (a .w) (orderBy (a .msf)) (a .f .now) (slice (a .f .now) (a .a) (a .m)) (a .end) (a .start) (l .p) (l .inv) (c .before .loop-test .left) _ (c .no-set2 .ensures)
 
 pub find-block-spec : {M : Type 1} → statement M
 find-block-spec =

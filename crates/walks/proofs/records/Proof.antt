@@ -5,7 +5,6 @@ use lib.ListN.{length}
 use Rattle.format.specs.Number.{orderBy}
 use Rattle.questions.specs.Ask.{orRefused}
 use Rattle.walks.specs.declared.Long.{Long}
-use Rattle.walks.specs.Answers.{Longs}
 use Rattle.walks.specs.Walks.{recordsFrom}
 use Rattle.walks.proofs.RecordLaws.{Come, starts, come-head, come-none, come-here, come-on}
 use borrow.Author.Needs.{needs}
@@ -69,8 +68,8 @@ returns c =
     let w = a .w in
     let o = orderBy (a .msf) in
     let l = c .before .before .before .before .loop in
-    subst (λ (r : Long). Longs (orRefused (recordsFrom w o f (a .v) (a .o) (a .end) (a .start))) r) (sym (c .long-at .ensures))
-    (come-here w o f (a .v) (a .o) (a .end) (a .start) (l .p) (l .n) (l .inv) (c .before .before .before .loop-test .taken) (sym (c .before .if1 .taken) ∙ c .before .before .is-of .ensures))
+    c .long-at .ensures
+    ∙ (come-here w o f (a .v) (a .o) (a .end) (a .start) (l .p) (l .n) (l .inv) (c .before .before .before .loop-test .taken) (sym (c .before .if1 .taken) ∙ c .before .before .is-of .ensures))
 
 -- src/lib.rt:87:9
 add-p : tie.Need-add-p Inv-loop μ-loop
@@ -114,8 +113,8 @@ returns-2 c =
     let w = a .w in
     let o = orderBy (a .msf) in
     let l = c .before .before .loop in
-    subst (λ (r : Long). Longs (orRefused (recordsFrom w o f (a .v) (a .o) (a .end) (a .start))) r) (sym (c .no-long .ensures))
-    (come-none w o f (a .v) (a .o) (a .end) (a .start) (l .p) (l .n) (l .inv) (c .before .loop-test .left))
+    c .no-long .ensures
+    ∙ (come-none w o f (a .v) (a .o) (a .end) (a .start) (l .p) (l .n) (l .inv) (c .before .loop-test .left))
 
 pub records-spec : {M : Type 1} → statement M
 records-spec =

@@ -2,6 +2,8 @@ use mathlib.Core.Path.{ap, _∙_}
 use Prim.Native.Nat.{ℕ}
 use mathlib.Core.List.{List, [], _++_}
 use lib.ListN.{drop}
+use Rattle.asking.specs.declared.Answer.{Answer}
+use Rattle.asking.specs.Asking.{answerBy}
 use Rattle.coded.specs.Coded.{numbersOf}
 use borrow.Author.Needs.{needs}
 use Rattle.word_runs.proofs.put_words.Statement.{statement}
@@ -21,7 +23,7 @@ same-length c = search needs
 
 returns : tie.Need-returns
 returns c =
-    let y = c .before .before .before .numbers-of .ensures [] ∙ ap numbersOf (c .before .before .before .before .by-words .ensures []) in
+    let y = c .before .before .before .numbers-of .ensures ∙ ap (λ (x : Answer). numbersOf (answerBy x)) (c .before .before .before .before .by-words .ensures) in
     c .before .before .put-four .ensures ∙ ap (λ (x : List ℕ). x ++ drop 4 (c .before .before .before .before .before .before .before .args .out .now)) y
 
 pub put-words-spec : {M : Type 1} → statement M

@@ -6,17 +6,18 @@ type OfSize = fn(usize) -> Vec<u8>;
 /// A file of its own size.
 type Fixed = fn() -> Vec<u8>;
 
-/// Files of about a size.
-pub const ORDINARY: [(&str, OfSize); 5] = [
+/// Files of about a size, which hostile ones are compared with.
+pub const ORDINARY: [(&str, OfSize); 4] = [
     ("numbers", numbers),
     ("texts", texts),
     ("long strings", long_strings),
-    ("long strings of 20 bytes", short_strings),
     ("labels", labels),
 ];
 
-/// Other mixes of numbers: what turning their bytes costs depends on how many of one width stand beside each other.
-pub const MIXES: [(&str, OfSize); 3] = [
+/// Files that are told beside them: short long strings, and other mixes of numbers, as what turning their bytes costs depends on how many of one width stand
+/// beside each other.
+pub const BESIDE: [(&str, OfSize); 4] = [
+    ("long strings of 20 bytes", short_strings),
     ("numbers, no two alike", no_two_alike),
     ("numbers, three alike", threes),
     ("ints and bytes in turn", ints_and_bytes),
