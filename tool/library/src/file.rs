@@ -1,6 +1,6 @@
 use crate::answer::{Answer, Question, Type};
 use crate::lists::{list, LabelSets, LongStrings};
-use crate::many::{Ask, Column, ColumnWords, Rows};
+use crate::many::{Column, ColumnWords, Rows};
 use crate::{raw, Cell, Refusal, Words, LONGEST};
 
 #[derive(Clone, Copy, PartialEq, Eq, Debug)]
@@ -215,7 +215,8 @@ impl<B: AsRef<[u8]>> File<B> {
 
     /// The cells of a variable, from observation `j` on; refused with 16 where there is no such observation.
     pub fn column_from(&self, i: u64, j: u64) -> Result<Column<'_>, Refusal> {
-        self.begins(raw::cells_down, i, j)?;
+        self.within(i)?;
+        self.begins(j)?;
         Ok(Column::new(self.bytes(), &self.layout, i, j))
     }
 
@@ -227,7 +228,8 @@ impl<B: AsRef<[u8]>> File<B> {
 
     /// The label words of a variable's cells, from observation `j` on; refused with 16 where there is no such observation.
     pub fn column_words_from(&self, i: u64, j: u64) -> Result<ColumnWords<'_>, Refusal> {
-        self.begins(raw::cells_down, i, j)?;
+        self.within(i)?;
+        self.begins(j)?;
         Ok(ColumnWords::new(self.bytes(), &self.layout, i, j))
     }
 
@@ -238,7 +240,7 @@ impl<B: AsRef<[u8]>> File<B> {
 
     /// The observations, from observation `j` on; refused with 16 where there is no such observation.
     pub fn rows_from(&self, j: u64) -> Result<Rows<'_>, Refusal> {
-        self.begins(raw::cells_along, 1, j)?;
+        self.begins(j)?;
         Ok(Rows::new(self.bytes(), &self.layout, j))
     }
 
@@ -300,11 +302,11 @@ impl<B: AsRef<[u8]>> File<B> {
         }
     }
 
-    /// Refused with 16 unless there is a cell with which such a run can begin.
-    fn begins(&self, run: Ask, i: u64, j: u64) -> Result<(), Refusal> {
-        match run(self.bytes(), &self.layout.0, i, j, &mut [], &mut []) {
-            0 => Ok(()),
-            number => Err(Refusal::new(number)),
+    /// Refused with 16 unless there is such an observation, from which a run can begin.
+    fn begins(&self, j: u64) -> Result<(), Refusal> {
+        match (1..=self.observation_count()).contains(&j) {
+            true => Ok(()),
+            false => Err(Refusal::new(16)),
         }
     }
 

@@ -8,7 +8,7 @@ use crate::{raw, Cell, Words};
 const ANSWERS: usize = 1024;
 
 /// A function of `raw` that answers about cells one after another.
-pub(crate) type Ask = fn(&[u8], &[u64], u64, u64, &mut [u64], &mut [u64]) -> u8;
+type Ask = fn(&[u8], &[u64], u64, u64, &mut [u64], &mut [u64]) -> u8;
 
 /// Answers down a column.
 struct Down<'a> {
@@ -42,9 +42,11 @@ impl<'a> Down<'a> {
     #[inline]
     fn numbers(&mut self) -> Option<Numbers> {
         if self.next == self.count {
+            if self.j > self.layout.observations() {
+                return None;
+            }
             self.answers.resize(self.at_once * raw::ANSWER, 0);
             let answers = &mut self.answers[..];
-            // Behind the last observation none is stored.
             let mut count = [0];
             (self.ask)(
                 self.file,
