@@ -43,7 +43,7 @@ types-long t o f (suc n) p l e =
     let c = consed (typeIn t o f p) (typesIn t o f n (p + codeWidth t)) l e in
     ap length (c .is) ∙ ap suc (types-long t o f n (p + codeWidth t) (c .tail) (c .tail-got))
 
-types-inside : (t : Bool) (o : Order) (f : List ℕ) (n p : ℕ) (l : List VarType) → 0 < n → typesIn t o f n p ≡ got l → p + n * codeWidth t ≤ length f
+pub types-inside : (t : Bool) (o : Order) (f : List ℕ) (n p : ℕ) (l : List VarType) → 0 < n → typesIn t o f n p ≡ got l → p + n * codeWidth t ≤ length f
 types-inside t o f n p l z e = go (leb (p + n * codeWidth t) (length f)) refl
   where
     go : (b : Bool) → leb (p + n * codeWidth t) (length f) ≡ b → p + n * codeWidth t ≤ length f

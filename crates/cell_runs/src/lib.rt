@@ -18,7 +18,7 @@ ghost use Rattle.coded.specs.Coded.{numbersOf, Tells};
 ghost use Rattle.cell_runs.specs.Next.{nextColumn, NextInside};
 
 // A sum, or the greatest number where it is greater.
-fn add_capped(a: u64, b: u64) -> u64
+pub fn add_capped(a: u64, b: u64) -> u64
     ensures { λ r. ⌜ r ≡ capped (a + b) ⌝ }
 {
     if a <= 18446744073709551615 - b {
@@ -29,7 +29,7 @@ fn add_capped(a: u64, b: u64) -> u64
 }
 
 // Where the cells of variable `i + 1` stand, where `c` is where those of variable `i` do, and `types` is the type codes' place.
-fn column_after(f: &[u8], types: u64, c: Column, i: u64, tagged: bool, msf: bool) -> Column
+pub fn column_after(f: &[u8], types: u64, c: Column, i: u64, tagged: bool, msf: bool) -> Column
     requires { ⌜ NextInside tagged (now f) types i c ⌝ }
     ensures { λ r. ⌜ r ≡ nextColumn tagged (orderBy msf) (now (f .entry)) types i c ⌝ }
 {
@@ -56,14 +56,14 @@ pub fn place_of(l: Layout, k: usize) -> u64
 }
 
 // The lesser.
-fn least(a: usize, b: u64) -> usize
+pub fn least(a: usize, b: u64) -> usize
     ensures { λ r. ⌜ r ≡ Coded.least a b ⌝ }
 {
     if a as u64 <= b { a } else { b as usize }
 }
 
 // How many numbers there are from `i` up to `k`.
-fn following(i: u64, k: u64) -> u64
+pub fn following(i: u64, k: u64) -> u64
     ensures { λ r. ⌜ r ≡ Coded.following i k ⌝ }
 {
     if i == 0 {

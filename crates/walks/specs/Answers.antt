@@ -67,3 +67,7 @@ setBy (labels s) = tableBy s
 setBy (cell s) = noSet 17
 setBy (plain t) = noSet 17
 setBy (long k p n) = noSet 17
+
+-- the set s with the length 0: where its table stands is all that words are found by
+abbrev pub lenless : LabelSet → LabelSet
+lenless s = record { code = s .code; found = s .found; at = s .at; len = 0 }

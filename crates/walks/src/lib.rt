@@ -216,13 +216,13 @@ pub fn ended(f: &[u8], w: Words) -> Words
 }
 
 // How many bytes the marks of a block have.
-fn open_size(tagged: bool) -> u64
+pub fn open_size(tagged: bool) -> u64
     ensures { λ r. ⌜ (r ≡ openSize tagged) × (r ≤ 6) ⌝ }
 {
     if tagged { 5 } else { 0 }
 }
 
-fn close_size(tagged: bool) -> u64
+pub fn close_size(tagged: bool) -> u64
     ensures { λ r. ⌜ (r ≡ closeSize tagged) × (r ≤ 6) ⌝ }
 {
     if tagged { 6 } else { 0 }
@@ -254,7 +254,7 @@ fn is_sized(f: &[u8], p: u64, w: u64, msf: bool) -> bool
 }
 
 // The block at `p`, with its name in `w` bytes, in a part that ends at `end`.
-fn block_at(f: &[u8], p: u64, end: u64, tagged: bool, w: usize, msf: bool) -> Block
+pub fn block_at(f: &[u8], p: u64, end: u64, tagged: bool, w: usize, msf: bool) -> Block
     requires { ⌜ (p < end) × (w ≤ 65535) ⌝ }
     ensures { λ r. ⌜ IsBlock tagged w (orderBy msf) (now (f .entry)) end p r ⌝ }
 {
@@ -282,7 +282,7 @@ fn block_at(f: &[u8], p: u64, end: u64, tagged: bool, w: usize, msf: bool) -> Bl
 }
 
 // Whether the text of `n` bytes at `p` is that of `m` bytes at `a`.
-fn same_name(f: &[u8], p: u64, n: u64, a: usize, m: usize) -> bool
+pub fn same_name(f: &[u8], p: u64, n: u64, a: usize, m: usize) -> bool
     requires { ⌜ (p + n ≤ length (now f)) × (a + m ≤ length (now f)) ⌝ }
     ensures { λ r. ⌜ r ≡ sameName (now (f .entry)) p n a m ⌝ }
 {

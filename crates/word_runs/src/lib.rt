@@ -1,36 +1,43 @@
 // Label words one after another, down a column: the variable's label set is looked for once, and each cell's value is sought in its table. A text is gone
 // through to its end, until that has cost more than its whole text area; then the ends of all its texts are found, once, so that each later cell costs at
-// most 256 text bytes. Only a wrong layout shows a text area of more than 5,308,416 bytes, or one that passes the file's end: there each cell's text is gone through.
+// most 256 text bytes. Columns of one label set can share the list of ends. Only a wrong layout shows a text area of more than 5,308,416 bytes, or one that passes the file's end: there each cell's text is gone through.
 use checking::Layout;
 use coded::Run;
+use columns::Column;
 use walks::LabelSet;
 use walks::Words;
 ghost use mathlib.Core.Path.{_≡_};
-ghost use mathlib.Core.List.{[], _++_};
-ghost use Prim.Native.Nat.{ℕ, _+_, _≤_};
+ghost use mathlib.Core.List.{_++_};
+ghost use Prim.Native.Nat.{_+_, _*_, _≤_};
 ghost use lib.ListN.{length, drop};
-ghost use Rattle.questions.specs.Ask.{askWords};
 ghost use Rattle.checking.specs.Checks.{layoutBy};
 ghost use Rattle.asking.specs.Asking.{answerBy, byWords};
 ghost use Rattle.walks.specs.Walks.{endedBy};
 ghost use Rattle.text_ends.specs.Ends.{Ends};
 ghost use Rattle.word_runs.specs.Areas.{noArea, InFile, standsIn};
-ghost use Rattle.coded.specs.Coded.{numbersOf, following, Tells};
+ghost use Rattle.word_runs.specs.Words.{wordsDown, ColumnGiven, ListingFits};
+ghost use Rattle.coded.specs.Coded.{numbersOf, told, following, Tells};
 
 // The text area of a label table, by place and length.
-struct Area {
-    at: usize,
-    len: usize,
+pub struct Area {
+    pub at: usize,
+    pub len: usize,
 }
 
-fn no_area() -> Area
+// How many bytes of a text area have their ends listed, none or all, and how many text bytes were gone through.
+pub struct Listing {
+    pub had: usize,
+    pub spent: u64,
+}
+
+pub fn no_area() -> Area
     ensures { λ r. ⌜ r ≡ noArea ⌝ }
 {
     Area { at: 0, len: 0 }
 }
 
 // The text area of a label set's table, where it lies in the file and has no more bytes than an accepted file's can have; else an empty one.
-fn text_area(f: &[u8], s: LabelSet, msf: bool) -> Area
+pub fn text_area(f: &[u8], s: LabelSet, msf: bool) -> Area
     ensures { λ r. ⌜ InFile (now (f .entry)) r ⌝ }
 {
     if !s.found {
@@ -129,26 +136,34 @@ fn put_words(out: &mut [u64], x: Words)
     coded::put_four(out, coded::numbers_of(asking::by_words(x)));
 }
 
-// The label words of variable `i` from observation `j` on, four numbers each, as many as `out` has room for.
-pub fn words_down(f: &[u8], l: Layout, i: u64, j: u64, out: &mut [u64]) -> Run
-    ensures { λ r. ⌜ Tells (now (f .entry)) (layoutBy l) i j (λ (m : ℕ). askWords i (j + m) []) (following j (l .n)) (now (out .entry)) (now (out .exit)) r ⌝ }
+// The label words of variable `i` in `n` observations from `j` on, four numbers each, where `c` is where its cells stand, `s` its label set, which has the text
+// area `g`, and `t` and `x` tell of the ends that are listed; how many then are.
+pub fn words_in(
+    f: &[u8],
+    l: Layout,
+    i: u64,
+    j: u64,
+    n: usize,
+    c: Column,
+    s: LabelSet,
+    g: Area,
+    t: &mut [u32; 20737],
+    x: Listing,
+    out: &mut [u64],
+) -> Listing
+    requires { ⌜ (ColumnGiven (now f) (layoutBy l) i c s) × (ListingFits (now f) g (now t) x) × (n * 4 ≤ length (now out)) × (j + n ≤ 18446744073709551616) ⌝ }
+    ensures { λ r. ⌜ (now (out .exit) ≡ told (now (f .entry)) (layoutBy l) (wordsDown i j) n ++ drop (n * 4) (now (out .entry))) × (ListingFits (now (f .entry)) g (now (t .exit)) r) ⌝ }
 {
-    let r = cell_runs::run_of(l, i, j, j, l.n, out.len());
-    let n = r.count;
     let o = reading::edition_in(l.edition, l.order);
     let start = cell_runs::place_of(l, 9);
     let gap = reading::tag_size(o.e.tagged, 6);
-    let c = columns::column_of(f, l, i);
     let kind = c.kind;
-    let s = label_words::set_of(f, l, i);
-    let g = text_area(f, s, o.msf);
-    let mut t = [0u32; 20737];
-    let mut had: usize = 0;
-    let mut spent: u64 = 0;
+    let mut had = x.had;
+    let mut spent = x.spent;
     let mut m: usize = 0;
     while m < n {
         let row = cells::row_in(f, c.code, c.row, j + m as u64, l.n, start, gap);
-        let x = cells::cell_in_row(
+        let said = cells::cell_in_row(
             f,
             row,
             kind,
@@ -158,12 +173,38 @@ pub fn words_down(f: &[u8], l: Layout, i: u64, j: u64, out: &mut [u64]) -> Run
             o.e.o_width,
             o.msf,
         );
-        let w = label_words::cell_place(f, s, x, o.msf);
-        let y = ended_by(f, &t, g.at, had, w);
+        let w = label_words::cell_place(f, s, said, o.msf);
+        let y = ended_by(f, t, g.at, had, w);
         put_words(&mut out[m * 4..], y);
         spent = spent_with(spent, y.len);
-        had = listed(&mut t, f, g.at, g.len, had, spent);
+        had = listed(t, f, g.at, g.len, had, spent);
         m += 1;
     }
+    Listing { had, spent }
+}
+
+// The label words of variable `i` from observation `j` on, four numbers each, as many as `out` has room for.
+pub fn words_down(f: &[u8], l: Layout, i: u64, j: u64, out: &mut [u64]) -> Run
+    ensures { λ r. ⌜ Tells (now (f .entry)) (layoutBy l) i j (wordsDown i j) (following j (l .n)) (now (out .entry)) (now (out .exit)) r ⌝ }
+{
+    let r = cell_runs::run_of(l, i, j, j, l.n, out.len());
+    let o = reading::edition_in(l.edition, l.order);
+    let c = columns::column_of(f, l, i);
+    let s = label_words::set_of(f, l, i);
+    let g = text_area(f, s, o.msf);
+    let mut t = [0u32; 20737];
+    words_in(
+        f,
+        l,
+        i,
+        j,
+        r.count,
+        c,
+        s,
+        g,
+        &mut t,
+        Listing { had: 0, spent: 0 },
+        &mut out[..],
+    );
     r
 }

@@ -1,0 +1,4 @@
+pub mod OrderLaws
+pub mod CompareLaws
+pub mod NameLaws
+pub mod ListedLaws

@@ -1,0 +1,2 @@
+pub mod AcrossLaws
+pub mod ListedLaws

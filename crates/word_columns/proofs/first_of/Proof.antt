@@ -1,0 +1,16 @@
+use Rattle.word_columns.proofs.ListedLaws.{first-none}
+use borrow.Author.Needs.{needs}
+use Rattle.word_columns.proofs.first_of.Statement.{statement}
+use Rattle.word_columns.proofs.first_of.Tie as tie
+
+returns : tie.Need-returns
+returns c = first-none (c .before .args .v .now) (c .if1 .taken)
+
+shared-slice-read-result : tie.Need-shared-slice-read-result
+shared-slice-read-result c = search needs
+
+returns-2 : tie.Need-returns-2
+returns-2 c = search needs
+
+pub first-of-spec : {M : Type 1} → statement M
+first-of-spec = tie.close (tie.spec returns shared-slice-read-result returns-2)
