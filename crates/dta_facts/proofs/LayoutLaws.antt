@@ -11,6 +11,7 @@ use Rattle.format.specs.Dta.{Layout, noLayout}
 use Rattle.questions.specs.Ask.{Question}
 use Rattle.coded.specs.declared.Run.{Run}
 use Rattle.coded.specs.Coded.{following, Tells}
+use Rattle.word_columns.specs.Across.{TellsAcross}
 use Rattle.dta_facts.specs.Exports.{layoutIn}
 
 -- w, of n numbers, begins with the first i of t
@@ -45,3 +46,7 @@ layout-some s w h e = rw (le-leb 18 (length s) h, e)
 -- answers by the layout l, of those from a up to what it has of a kind, are answers by the layout m
 pub tells-by : (k : Layout → ℕ) (a : ℕ) {f d w : List ℕ} {l m : Layout} {i j : ℕ} {q : ℕ → Question} {r : Run} → l ≡ m → Tells f l i j q (following a (k l)) d w r → Tells f m i j q (following a (k m)) d w r
 tells-by k a {f} {d} {w} {l} {m} {i} {j} {q} {r} e t = subst (λ (x : Layout). Tells f x i j q (following a (k x)) d w r) e t
+
+-- the same of the words of several variables
+pub across-by : (v : List ℕ) (j x : ℕ) {f d w : List ℕ} {l m : Layout} {r : Run} → l ≡ m → TellsAcross f l v j x d w r → TellsAcross f m v j x d w r
+across-by v j x {f} {d} {w} {l} {m} {r} e t = subst (λ (y : Layout). TellsAcross f y v j x d w r) e t

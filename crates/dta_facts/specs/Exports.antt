@@ -8,6 +8,7 @@ use lib.Dec.{eqb, leb}
 use Rattle.format.specs.Dta.{Layout, noLayout, verdict}
 use Rattle.questions.specs.Ask.{Question, Answer, refused, askEdition, askOrder, askK, askN, askLabel, askStamp, askType, askName, askFormat, askSet, askVarLabel, askDate, askSort, askCell, askLong, askWords, answerOf, shown}
 use Rattle.coded.specs.Coded.{numbersOf, told, runOf}
+use Rattle.word_columns.specs.Across.{wordsAcross, rowsFrom}
 
 -- the layout of eighteen numbers, edition, byte order, K, N and the fourteen positions; all zeros where there are fewer
 abbrev pub layoutIn : List ℕ → Layout
@@ -79,3 +80,7 @@ pub record Runs (f : List ℕ) (l : Layout) (i j : ℕ) (q : ℕ → Question) (
   pub code : r ≡ runOf l i j n (length d) .code
   pub out : w ≡ (let m = runOf l i j n (length d) .count in told f l q m ++ drop (m * 4) d)
   pub count : v ≡ stored (runOf l i j n (length d) .count) e
+
+-- the same for the label words of the variables s in x observations from j on (`TellsAcross`)
+abbrev pub RunsAcross : List ℕ → Layout → List ℕ → ℕ → ℕ → List ℕ → List ℕ → List ℕ → List ℕ → ℕ → Type 0
+RunsAcross f l s j x d w e v r = Runs f l (getD s 0 0) j (wordsAcross s j (rowsFrom l j x)) (length s * rowsFrom l j x) d w e v r

@@ -18,7 +18,7 @@ ghost use Rattle.long_list.specs.Lists.{listCode, listCount, listOut};
 ghost use Rattle.long_list.specs.Longs.{longsOf};
 ghost use Rattle.set_list.specs.Sets.{setsOf};
 ghost use Rattle.sort_order.specs.Sorted.{sortedOf};
-ghost use Rattle.dta_facts.specs.Exports.{layoutIn, questionOf, askedIn, askedBy, shownBy, codeOf, fileCode, copied, answered, stored, Runs};
+ghost use Rattle.dta_facts.specs.Exports.{layoutIn, questionOf, askedIn, askedBy, shownBy, codeOf, fileCode, copied, answered, stored, Runs, RunsAcross};
 
 // The layout of eighteen numbers; all zeros where there are fewer.
 fn layout_in(s: &[u64]) -> Layout
@@ -248,6 +248,26 @@ pub extern "C" fn dta_words_down(
     ensures { λ r. ⌜ Runs (now (file .entry)) (layoutIn (now (layout .entry))) i j (λ (m : ℕ). askWords i (j + m) []) (following j (layoutIn (now (layout .entry)) .rows)) (now (answers .entry)) (now (answers .exit)) (now (count .entry)) (now (count .exit)) r ⌝ }
 {
     let words = word_runs::words_down(file, layout_in(layout), i, j, &mut answers[..]);
+    put_first(&mut count[..], words.count as u64);
+    words.code
+}
+
+// The label words of the cells of the listed variables in `rows` observations from `j` on, at most those that there are, one variable after another, four numbers each,
+// as many as `answers` has room for: 0, or 16 where the first variable or observation `j` is not there. Listed in the order of their label-set names, all label tables
+// are found in one pass; the order changes no answer. `count` as in `dta_cells_down`.
+#[no_mangle]
+pub extern "C" fn dta_words_across(
+    file: &[u8],
+    layout: &[u64],
+    variables: &[u64],
+    j: u64,
+    rows: u64,
+    answers: &mut [u64],
+    count: &mut [u64],
+) -> u8
+    ensures { λ r. ⌜ RunsAcross (now (file .entry)) (layoutIn (now (layout .entry))) (now (variables .entry)) j rows (now (answers .entry)) (now (answers .exit)) (now (count .entry)) (now (count .exit)) r ⌝ }
+{
+    let words = word_columns::words_across(file, layout_in(layout), variables, j, rows, &mut answers[..]);
     put_first(&mut count[..], words.count as u64);
     words.code
 }
