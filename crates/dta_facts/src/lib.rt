@@ -267,9 +267,16 @@ pub extern "C" fn dta_words_across(
 ) -> u8
     ensures { λ r. ⌜ RunsAcross (now (file .entry)) (layoutIn (now (layout .entry))) (now (variables .entry)) j rows (now (answers .entry)) (now (answers .exit)) (now (count .entry)) (now (count .exit)) r ⌝ }
 {
-    let words = word_columns::words_across(file, layout_in(layout), variables, j, rows, &mut answers[..]);
-    put_first(&mut count[..], words.count as u64);
-    words.code
+    let across = word_columns::words_across(
+        file,
+        layout_in(layout),
+        variables,
+        j,
+        rows,
+        &mut answers[..],
+    );
+    put_first(&mut count[..], across.count as u64);
+    across.code
 }
 
 // The verdict on a file; of an accepted one, the long strings, five numbers each: v, o, kind, place and length of the contents. A `list` with no room for

@@ -3,6 +3,9 @@
 //!
 //! DTA_LIBRARY is how many generated files are asked, DTA_SEED is where the seeds start.
 
+#[path = "library/across.rs"]
+mod across;
+
 use dta::raw;
 use independent::damage::Source;
 use independent::dataset::{dataset, Cell as Stored, Dataset};
@@ -645,6 +648,16 @@ fn long_labels_down_a_column() {
         };
         assert_eq!(answer, due, "observation {}", j + 1);
     }
+    assert_eq!(twice(&file, &own, n), [&lent[..], &lent].concat());
+}
+
+/// The label words of variable 1, listed twice, in so many observations.
+fn twice(file: &[u8], layout: &Numbers, n: u64) -> Vec<u64> {
+    let mut lent = vec![BEFORE; 8 * n as usize];
+    let mut count = [0];
+    let code = raw::words_across(file, layout, &[1, 1], 1, n, &mut lent, &mut count);
+    assert_eq!((code, count), (0, [2 * n]));
+    lent
 }
 
 /// Over a wrong layout the text area may be longer than any right one, or pass the file's end.
@@ -678,6 +691,7 @@ fn long_labels_of_wrong_layouts() {
                     "text of {length}, {cut} cut off, observation {j}"
                 );
             }
+            assert_eq!(twice(file, &layout, n), [&lent[..], &lent].concat());
         }
     }
 }

@@ -1,7 +1,7 @@
 /* Stata .dta files of editions 113, 114 and 117, by a proved library. Link libdta.a and libdta_facts.a.
  *
  * A slice passes as a pointer and then a length; slices of one call don't overlap, and a pointer is not null, also where the length is 0. Nothing is kept after a
- * call, nothing is allocated, and any bytes may be handed in. The stack needs 512 KiB. Refusals are numbers of the table in document 01.
+ * call, nothing is allocated, and any bytes may be handed in. The stack needs 512 KiB, for dta_words_across 1 MiB. Refusals are numbers of the table in document 01.
  */
 #ifndef DTA_H
 #define DTA_H
@@ -94,6 +94,13 @@ uint8_t dta_ask_file(const uint8_t *file, size_t file_len, uint64_t question, ui
 uint8_t dta_cells_down(const uint8_t *file, size_t file_len, const uint64_t *layout, size_t layout_len, uint64_t i, uint64_t j, uint64_t *answers, size_t answers_len, uint64_t *count, size_t count_len);
 uint8_t dta_cells_along(const uint8_t *file, size_t file_len, const uint64_t *layout, size_t layout_len, uint64_t i, uint64_t j, uint64_t *answers, size_t answers_len, uint64_t *count, size_t count_len);
 uint8_t dta_words_down(const uint8_t *file, size_t file_len, const uint64_t *layout, size_t layout_len, uint64_t i, uint64_t j, uint64_t *answers, size_t answers_len, uint64_t *count, size_t count_len);
+
+/* The label words of many variables at once: those of the first listed variable in observation j and the ones after it, `rows` of them or as many as there are, then
+ * those of the second in the same observations, and so on: 0, or 16 where the first variable (0 where the list is empty) or observation j is not there. Answers and
+ * `count` are as above; a later variable that is not there is refused with 16 in its own answers. The answers don't depend on the order of the list, the time does:
+ * the label tables of at most 32,768 variables are found in one pass where these are listed in the order of their label-set names, by the first byte that differs, a
+ * name before those that it begins; else each table is looked for by itself. Variables of one label set are best listed beside each other. */
+uint8_t dta_words_across(const uint8_t *file, size_t file_len, const uint64_t *layout, size_t layout_len, const uint64_t *variables, size_t variables_len, uint64_t j, uint64_t rows, uint64_t *answers, size_t answers_len, uint64_t *count, size_t count_len);
 
 /* The verdict on a file, and of an accepted one the long strings, five numbers each; or the label sets: for each, place and length of its name and its number of entries,
  * and then for each entry its value, as 32 bits, and place and length of its text; or the variables by which it is sorted, in that order, K at most. A list with no room

@@ -1,6 +1,6 @@
 use crate::answer::{Answer, Question, Type};
 use crate::lists::{list, LabelSets, LongStrings};
-use crate::many::{Column, ColumnWords, Rows};
+use crate::many::{Column, ColumnWords, RowWords, Rows};
 use crate::{raw, Cell, Refusal, Words, LONGEST};
 
 #[derive(Clone, Copy, PartialEq, Eq, Debug)]
@@ -244,6 +244,19 @@ impl<B: AsRef<[u8]>> File<B> {
         Ok(Rows::new(self.bytes(), &self.layout, j))
     }
 
+    /// The label words of some variables, observation by observation. It takes far less time than a column of words for each of many variables.
+    pub fn row_words(&self, variables: &[u64]) -> Result<RowWords<'_>, Refusal> {
+        let named = self.with_sets(variables)?;
+        Ok(RowWords::new(self.bytes(), &self.layout, &named, 1))
+    }
+
+    /// The label words of some variables, from observation `j` on; refused with 16 where there is no such observation.
+    pub fn row_words_from(&self, variables: &[u64], j: u64) -> Result<RowWords<'_>, Refusal> {
+        let named = self.with_sets(variables)?;
+        self.begins(j)?;
+        Ok(RowWords::new(self.bytes(), &self.layout, &named, j))
+    }
+
     /// All long strings, to be found by the references of cells.
     pub fn long_strings(&self) -> LongStrings<'_> {
         LongStrings::new(self.bytes(), &self.layout)
@@ -300,6 +313,15 @@ impl<B: AsRef<[u8]>> File<B> {
             Answer::Part(part) => Ok(part.bytes),
             other => Err(refusal(other)),
         }
+    }
+
+    /// Variables with the names of their label sets; refused with 16 unless all are there.
+    fn with_sets(&self, variables: &[u64]) -> Result<Vec<(&[u8], u64)>, Refusal> {
+        let named = variables.iter().map(|i| {
+            let set = self.text(Question::LabelSet(*i))?;
+            Ok((set, *i))
+        });
+        named.collect()
     }
 
     /// Refused with 16 unless there is such an observation, from which a run can begin.

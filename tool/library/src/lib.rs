@@ -13,7 +13,7 @@
 //! not there is refused with 16. Variables and observations are counted from 1. Texts are bytes: no code page is assumed.
 //!
 //! Every byte of a file is read by the proved code alone. This crate hands numbers and slices over, and takes parts of the file by the places and lengths that it
-//! was told. [`raw`] has the functions themselves. They need up to 512 KiB of the calling thread's stack.
+//! was told. [`raw`] has the functions themselves. They need up to 1 MiB of the calling thread's stack.
 
 pub mod raw;
 
@@ -28,7 +28,7 @@ pub use answer::{Answer, Part, Question, Type};
 pub use cell::{Cell, Words};
 pub use file::{open, ByteOrder, File, Layout, Variable};
 pub use lists::{Entries, LabelSet, LabelSets, LongString, LongStrings};
-pub use many::{Column, ColumnWords, Rows};
+pub use many::{Column, ColumnWords, RowWords, Rows};
 pub use refusal::Refusal;
 
 /// The greatest length of a file in bytes, and the greatest number of observations.

@@ -27,7 +27,7 @@ pub(crate) fn list(
 }
 
 /// The bytes from one position of a file to the next.
-fn part(layout: &Layout, position: usize) -> usize {
+pub(crate) fn part(layout: &Layout, position: usize) -> usize {
     let positions = layout.positions();
     positions[position + 1].saturating_sub(positions[position]) as usize
 }

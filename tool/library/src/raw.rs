@@ -1,6 +1,6 @@
 //! The proved library's functions, on numbers and slices. Each does what its contract in `crates/dta/src/lib.rt` says, for every input.
 //!
-//! The library needs up to 512 KiB of the calling thread's stack. A thread that Rust starts has 2 MiB unless told otherwise.
+//! The library needs up to 512 KiB of the calling thread's stack, `words_across` up to 1 MiB. A thread that Rust starts has 2 MiB unless told otherwise.
 
 /// Edition, byte order, K, N, fourteen positions.
 pub const LAYOUT: usize = 18;
@@ -96,6 +96,20 @@ mod c {
             layout_len: usize,
             i: u64,
             j: u64,
+            answers: *mut u64,
+            answers_len: usize,
+            count: *mut u64,
+            count_len: usize,
+        ) -> u8;
+        pub fn dta_words_across(
+            file: *const u8,
+            file_len: usize,
+            layout: *const u64,
+            layout_len: usize,
+            variables: *const u64,
+            variables_len: usize,
+            j: u64,
+            rows: u64,
             answers: *mut u64,
             answers_len: usize,
             count: *mut u64,
@@ -283,6 +297,39 @@ pub fn words_down(
             layout.len(),
             i,
             j,
+            answers.as_mut_ptr(),
+            answers.len(),
+            count.as_mut_ptr(),
+            count.len(),
+        )
+    }
+}
+
+/// The label words of the cells of each listed variable, one variable after another, in the same observations: `rows` from observation `j` on, or as many as there
+/// are. Four numbers each, as many as `answers` has room for: 0, or 16 where the first variable of the list or observation `j` is not there, and where the list
+/// is empty. A later variable that is not there is refused in its own answers. `count` as for `cells_down`.
+///
+/// The answers don't depend on the order of the list, the time does: the label tables of at most 32,768 variables are found in one pass where these are listed in
+/// the order of their label-set names, byte by byte, as slices are ordered; else each table is looked for by itself.
+pub fn words_across(
+    file: &[u8],
+    layout: &[u64],
+    variables: &[u64],
+    j: u64,
+    rows: u64,
+    answers: &mut [u64],
+    count: &mut [u64],
+) -> u8 {
+    unsafe {
+        c::dta_words_across(
+            file.as_ptr(),
+            file.len(),
+            layout.as_ptr(),
+            layout.len(),
+            variables.as_ptr(),
+            variables.len(),
+            j,
+            rows,
             answers.as_mut_ptr(),
             answers.len(),
             count.as_mut_ptr(),

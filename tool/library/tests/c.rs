@@ -104,5 +104,5 @@ fn the_header_has_the_functions_of_the_libraries() {
         .collect();
     assert_eq!(functions(&text("c/dta.h")), functions(&exported));
     assert_eq!(functions(&text("src/raw.rs")), functions(&exported));
-    assert_eq!(functions(&exported).len(), 11);
+    assert_eq!(functions(&exported).len(), 12);
 }

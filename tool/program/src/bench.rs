@@ -5,7 +5,7 @@ mod made;
 use crate::arguments::Arguments;
 use crate::output::{self, Output};
 use crate::End;
-use dta::{ByteOrder, Cell, File};
+use dta::{ByteOrder, Cell, File, Words};
 use std::ffi::OsString;
 use std::hint::black_box;
 use std::io::{self, Write};
@@ -13,6 +13,12 @@ use std::time::{Duration, Instant};
 
 /// Each time is the least of this many.
 const RUNS: usize = 5;
+
+/// What is timed beside memcpy.
+const COLUMNS: [&str; 5] = ["check", "cells", "same", "other", "words"];
+
+/// The column of label words.
+const WORDS: usize = 4;
 
 pub fn run(given: Vec<OsString>) -> End {
     told(given).unwrap_or_else(|end| end)
@@ -37,28 +43,30 @@ fn told(given: Vec<OsString>) -> Result<End, End> {
                 worst = worst.most(&cost);
             }
             for (name, make) in made::BESIDE {
-                costs(make(size)).line(name, output)?;
+                let cost = costs(make(size));
+                cost.line(name, output)?;
+                worst.columns[WORDS] = higher(worst.columns[WORDS], cost.columns[WORDS]);
             }
         }
         writeln!(
             output,
-            "\nhostile files: cost per byte as multiples of the highest of the first {} above",
+            "\nhostile files: cost per byte as multiples of the highest of the first {} above; of words, of the labelled bytes",
             made::ORDINARY.len()
         )?;
         heading(output)?;
         for (name, make) in made::HOSTILE {
-            costs(make()).compared(name, &worst, output)?;
+            costs(make()).over(worst.columns, name, output)?;
         }
         Ok(End::Done)
     }))
 }
 
 fn heading(output: &mut Output) -> io::Result<()> {
-    writeln!(
-        output,
-        "\n{:<28}{:>10}{:>12}{:>8}{:>8}{:>8}{:>8}",
-        "file", "bytes", "memcpy ms", "check", "cells", "same", "other"
-    )
+    write!(output, "\n{:<28}{:>10}{:>12}", "file", "bytes", "memcpy ms")?;
+    for name in COLUMNS {
+        write!(output, "{name:>8}")?;
+    }
+    writeln!(output)
 }
 
 /// The seconds for each byte.
@@ -66,50 +74,50 @@ fn heading(output: &mut Output) -> io::Result<()> {
 struct Costs {
     length: usize,
     memcpy: f64,
-    check: f64,
-    cells: f64,
-    same: f64,
-    other: f64,
+    /// Nothing where there is nothing to read.
+    columns: [Option<f64>; COLUMNS.len()],
 }
 
 impl Costs {
     fn line(&self, name: &str, output: &mut Output) -> io::Result<()> {
-        self.over([self.memcpy; 4], name, output)
+        self.over([Some(self.memcpy); COLUMNS.len()], name, output)
     }
 
-    fn compared(&self, name: &str, worst: &Costs, output: &mut Output) -> io::Result<()> {
-        self.over(
-            [worst.check, worst.cells, worst.same, worst.other],
-            name,
-            output,
-        )
-    }
-
-    fn over(&self, by: [f64; 4], name: &str, output: &mut Output) -> io::Result<()> {
-        let [check, cells, same, other] = [
-            self.check / by[0],
-            self.cells / by[1],
-            self.same / by[2],
-            self.other / by[3],
-        ];
+    fn over(
+        &self,
+        by: [Option<f64>; COLUMNS.len()],
+        name: &str,
+        output: &mut Output,
+    ) -> io::Result<()> {
         let memcpy = self.memcpy * self.length as f64 * 1e3;
-        writeln!(
-            output,
-            "{name:<28}{:>10}{memcpy:>12.2}{check:>8.2}{cells:>8.2}{same:>8.2}{other:>8.2}",
-            self.length
-        )?;
+        write!(output, "{name:<28}{:>10}{memcpy:>12.2}", self.length)?;
+        for (cost, by) in self.columns.into_iter().zip(by) {
+            match (cost, by) {
+                (Some(cost), Some(by)) => write!(output, "{:>8.2}", cost / by)?,
+                _ => write!(output, "{:>8}", "-")?,
+            }
+        }
+        writeln!(output)?;
         output.flush()
     }
 
     fn most(&self, other: &Costs) -> Costs {
+        let mut columns = self.columns;
+        for (cost, other) in columns.iter_mut().zip(other.columns) {
+            *cost = higher(*cost, other);
+        }
         Costs {
             length: 0,
             memcpy: self.memcpy.max(other.memcpy),
-            check: self.check.max(other.check),
-            cells: self.cells.max(other.cells),
-            same: self.same.max(other.same),
-            other: self.other.max(other.other),
+            columns,
         }
+    }
+}
+
+fn higher(a: Option<f64>, b: Option<f64>) -> Option<f64> {
+    match (a, b) {
+        (Some(a), Some(b)) => Some(a.max(b)),
+        (a, b) => a.or(b),
     }
 }
 
@@ -123,17 +131,22 @@ fn costs(bytes: Vec<u8>) -> Costs {
     let cells = least(|| {
         black_box(read(&file));
     });
+    let labelled = labelled(&file);
+    let words = least(|| {
+        black_box(words(&file, &labelled));
+    });
     let mut rewrite =
         |order| least(|| assert!(file.rewrite(117, order, black_box(&mut out)).is_ok()));
     let same = rewrite(ByteOrder::Lsf);
     let other = rewrite(ByteOrder::Msf);
+    let mut columns = [check, cells, same, other, words].map(|time| Some(per_byte(time)));
+    if labelled.is_empty() {
+        columns[WORDS] = None;
+    }
     Costs {
         length,
         memcpy: per_byte(memcpy),
-        check: per_byte(check),
-        cells: per_byte(cells),
-        same: per_byte(same),
-        other: per_byte(other),
+        columns,
     }
 }
 
@@ -172,6 +185,30 @@ fn read(file: &File<&Vec<u8>>) -> u64 {
         sum = set
             .entries
             .fold(sum, |sum, (_, text)| sum.wrapping_add(text.len() as u64));
+    }
+    sum
+}
+
+/// The variables that have a label set.
+fn labelled(file: &File<&Vec<u8>>) -> Vec<u64> {
+    let labelled = file.variables().filter(|variable| !variable.set.is_empty());
+    labelled.map(|variable| variable.number).collect()
+}
+
+/// Reads the label words of every cell of these variables.
+fn words(file: &File<&Vec<u8>>, variables: &[u64]) -> u64 {
+    let mut sum = 0_u64;
+    if variables.is_empty() {
+        return sum;
+    }
+    let mut rows = file.row_words(variables).expect("variables of the file");
+    let mut row = Vec::new();
+    while rows.read(&mut row) {
+        for words in &row {
+            if let Words::Label(label) = words {
+                sum = sum.wrapping_add(label.len() as u64);
+            }
+        }
     }
     sum
 }

@@ -101,7 +101,8 @@ The answer is one line:
 const BENCH: &str = "\
 dta bench [--size MEGABYTES]
 
-Makes files in memory and times memcpy, checking, reading every cell and rewriting on them, at the size (100) and at half of it; and hostile files.
+Makes files in memory and times memcpy, checking, reading every cell, reading label words and rewriting on them, at the size (100) and at half of it; and hostile
+files.
 ";
 
 /// The help of a command.

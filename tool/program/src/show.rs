@@ -4,19 +4,13 @@ use crate::arguments::Arguments;
 use crate::output::{self, Output};
 use crate::text::{plain, put_cell};
 use crate::{input, End};
-use dta::{Cell, Column, ColumnWords, File, LongStrings, Rows, Type, Variable, Words};
+use dta::{Cell, Column, File, LongStrings, RowWords, Rows, Type, Variable, Words};
 use std::ffi::OsString;
 use std::io::{self, Write};
 use std::os::unix::ffi::OsStrExt;
 
 /// Observations that are laid out together in columns.
 const BLOCK: usize = 1_000;
-
-/// Answers that are kept for all columns of label words.
-const ANSWERS: usize = 4_000_000;
-
-/// .. and for one of them: each call goes through the texts of a label set once more where they are long.
-const AT_ONCE: usize = 65_536;
 
 /// A field that is longer does not widen its column.
 const WIDEST: usize = 40;
@@ -113,11 +107,59 @@ impl<'a> Cells<'a> {
     }
 }
 
+/// The label words of the shown variables that have a label set, observation by observation.
+struct Labels<'a> {
+    /// Nothing where no observation is shown.
+    rows: Option<RowWords<'a>>,
+    row: Vec<Words<'a>>,
+    /// Where the words of each shown variable stand in the row.
+    places: Vec<Option<usize>>,
+}
+
+impl<'a> Labels<'a> {
+    fn new(
+        file: &'a File<Vec<u8>>,
+        variables: &[Variable],
+        from: u64,
+        count: u64,
+        shown: bool,
+    ) -> Labels<'a> {
+        let mut labelled = Vec::new();
+        let place = |variable: &Variable| {
+            (shown && !variable.set.is_empty()).then(|| {
+                labelled.push(variable.number);
+                labelled.len() - 1
+            })
+        };
+        let places = variables.iter().map(place).collect();
+        let rows = file.row_words_from(&labelled, from).ok();
+        Labels {
+            rows: rows.map(|rows| rows.at_most(count)),
+            row: Vec::new(),
+            places,
+        }
+    }
+
+    /// Goes on to the next observation.
+    fn read(&mut self) {
+        if let Some(rows) = &mut self.rows {
+            rows.read(&mut self.row);
+        }
+    }
+
+    /// The label of the cell of a shown variable.
+    fn of(&self, at: usize) -> Option<&'a [u8]> {
+        match self.row.get(self.places[at]?)? {
+            Words::Label(label) => Some(label),
+            Words::Plain => None,
+        }
+    }
+}
+
 struct Table<'a> {
     variables: &'a [Variable<'a>],
     cells: Cells<'a>,
-    /// The label words of the variables that have a label set.
-    words: Vec<Option<ColumnWords<'a>>>,
+    labels: Labels<'a>,
     longs: Option<LongStrings<'a>>,
     from: u64,
     count: u64,
@@ -133,29 +175,15 @@ impl<'a> Table<'a> {
         labels: bool,
     ) -> Table<'a> {
         let left = (file.observation_count() + 1).saturating_sub(from);
-        let labelled = |variable: &Variable| labels && !variable.set.is_empty();
-        let columns = variables
-            .iter()
-            .filter(|variable| labelled(variable))
-            .count();
-        let shown = count.min(left).max(1);
-        let at_once = (ANSWERS / columns.max(1)).clamp(64, AT_ONCE) as u64;
-        let at_once = at_once.min(shown) as usize;
-        let words = |variable: &Variable| match labelled(variable) {
-            true => file
-                .column_words_from(variable.number, from)
-                .ok()
-                .map(|words| words.at_once(at_once)),
-            false => None,
-        };
+        let count = count.min(left);
         let has_longs = variables.iter().any(|variable| variable.of == Type::StrL);
         Table {
             variables,
             cells: Cells::new(file, variables, from),
-            words: variables.iter().map(words).collect(),
+            labels: Labels::new(file, variables, from, count, labels),
             longs: has_longs.then(|| file.long_strings()),
             from,
-            count: count.min(left),
+            count,
             row: Vec::new(),
         }
     }
@@ -167,11 +195,12 @@ impl<'a> Table<'a> {
         }
         self.count -= 1;
         fields.resize_with(self.row.len(), Vec::new);
-        for ((field, cell), words) in fields.iter_mut().zip(&self.row).zip(&mut self.words) {
+        self.labels.read();
+        for (at, (field, cell)) in fields.iter_mut().zip(&self.row).enumerate() {
             field.clear();
-            match words.as_mut().and_then(Iterator::next) {
-                Some(Words::Label(label)) => field.extend_from_slice(label),
-                _ => put_cell(field, *cell, self.longs.as_ref()),
+            match self.labels.of(at) {
+                Some(label) => field.extend_from_slice(label),
+                None => put_cell(field, *cell, self.longs.as_ref()),
             }
         }
         true

@@ -28,7 +28,7 @@ rows-from-requires c κs = search needs
 columns-in-requires : tie.Need-columns-in-requires
 columns-in-requires c κs =
     let a = c .before .before .before .before .before .before .before .before .before .args in
-    rows-few (layoutBy (a .l)) (a .j) (a .rows) _ (c .before .rows-from .ensures)
+    rows-few (layoutBy (a .l)) (a .j) _ _ (c .before .rows-from .ensures)
 
 same-length : tie.Need-same-length
 same-length c = search needs

@@ -33,7 +33,7 @@ words-in-requires c κs =
       record { column = c .before .before .before .before .column-of .ensures; set = ap lenless (c .before .before .before .set-of .ensures) },
       record { area = g .ensures; ends = ends-none (a .f .now) (g .result .at); upto = omega arith },
       omega (arith, n .0),
-      following-within (a .j) (a .l .n) (r .result .count) 18446744073709551616 (n .1) (omega (arith, s .fits .j)) (omega (arith, s .good .1 .0)),
+      following-within (a .j) (a .l .n) _ 18446744073709551616 (omega (arith, n .1)) (omega (arith, s .fits .j)) (omega (arith, s .good .1 .0)),
     )
 
 same-length : tie.Need-same-length

@@ -14,18 +14,21 @@ pub const ORDINARY: [(&str, OfSize); 4] = [
     ("labels", labels),
 ];
 
-/// Files that are told beside them: short long strings, and other mixes of numbers, as what turning their bytes costs depends on how many of one width stand
-/// beside each other.
-pub const BESIDE: [(&str, OfSize); 4] = [
+/// Files that are told beside them: short long strings, variables with label sets, and other mixes of numbers, as what turning their bytes costs depends on how many
+/// of one width stand beside each other.
+pub const BESIDE: [(&str, OfSize); 5] = [
     ("long strings of 20 bytes", short_strings),
+    ("labelled bytes", labelled_bytes),
     ("numbers, no two alike", no_two_alike),
     ("numbers, three alike", threes),
     ("ints and bytes in turn", ints_and_bytes),
 ];
 
 /// Files that would be slow where work is done more than once for a byte.
-pub const HOSTILE: [(&str, Fixed); 3] = [
+pub const HOSTILE: [(&str, Fixed); 5] = [
     ("65,536 labels on one text", one_text),
+    ("32,767 on one text", all_on_one_text),
+    ("32,767 label sets", many_sets),
     ("32,767 variables, all sorted", many_variables),
     ("100,000 crossed long strings", crossed),
 ];
@@ -56,6 +59,8 @@ struct Made {
     types: Vec<u16>,
     n: usize,
     sort: Vec<u16>,
+    /// The names of the first variables' label sets; the others have none.
+    sets: Vec<String>,
     data: Vec<u8>,
     strls: Vec<u8>,
     labels: Vec<u8>,
@@ -67,6 +72,7 @@ impl Made {
             types,
             n,
             sort: Vec::new(),
+            sets: Vec::new(),
             data: Vec::new(),
             strls: Vec::new(),
             labels: Vec::new(),
@@ -107,7 +113,8 @@ impl Made {
         sort.resize(k + 1, 0);
         part("sortlist", &numbers(&sort));
         part("formats", &fields(k, 49, |_| "%9.0g".to_string()));
-        part("value_label_names", &vec![0; 33 * k]);
+        let set = |i: usize| self.sets.get(i - 1).cloned().unwrap_or_default();
+        part("value_label_names", &fields(k, 33, set));
         part("variable_labels", &vec![0; 81 * k]);
         part("characteristics", b"");
         part("data", &self.data);
@@ -278,13 +285,58 @@ fn labels(size: usize) -> Vec<u8> {
     made.file()
 }
 
-fn one_text() -> Vec<u8> {
-    let mut made = Made::new(vec![BYTE], 1);
-    made.data.push(1);
+/// Twenty variables over five label sets of twelve labels; two of fourteen values have none.
+fn labelled_bytes(size: usize) -> Vec<u8> {
+    let k = 20;
+    let mut made = Made::new(vec![BYTE; k], size / k);
+    made.sets = (0..k).map(|at| format!("set{}", at % 5)).collect();
+    let mut next = Numbers(5);
+    made.data = (0..made.n * k).map(|_| (next.next() % 14) as u8).collect();
+    let offsets: Vec<u32> = (0..12).map(|entry| 9 * entry).collect();
+    let text: Vec<u8> = (0..12)
+        .flat_map(|entry| format!("label {entry:02}\0").into_bytes())
+        .collect();
+    for set in 0..5 {
+        put_block(&mut made, &format!("set{set}"), &offsets, &text);
+    }
+    made.file()
+}
+
+/// A block of 65,536 labels that stand on one text.
+fn put_one_text(made: &mut Made) {
     let mut text = vec![b'x'; 5_308_416];
     text[5_308_415] = 0;
     let offsets: Vec<u32> = (0..65_536).collect();
-    put_block(&mut made, "set", &offsets, &text);
+    put_block(made, "set", &offsets, &text);
+}
+
+fn one_text() -> Vec<u8> {
+    let n = 2_000;
+    let mut made = Made::new(vec![INT], n);
+    made.sets = vec!["set".to_string()];
+    made.data = (0..n as u16).flat_map(|o| (16 * o).to_le_bytes()).collect();
+    put_one_text(&mut made);
+    made.file()
+}
+
+fn all_on_one_text() -> Vec<u8> {
+    let k = 32_767;
+    let mut made = Made::new(vec![BYTE; k], 1);
+    made.sets = vec!["set".to_string(); k];
+    made.data = (0..k).map(|at| (at % 100) as u8).collect();
+    put_one_text(&mut made);
+    made.file()
+}
+
+/// Each variable has a label set of its own; the sets stand in the other order.
+fn many_sets() -> Vec<u8> {
+    let k = 32_767;
+    let mut made = Made::new(vec![BYTE; k], 1);
+    made.sets = (1..=k).map(|i| format!("set{i}")).collect();
+    made.data = vec![1; k];
+    for set in made.sets.clone().iter().rev() {
+        put_block(&mut made, set, &[0, 3], b"no\0yes\0");
+    }
     made.file()
 }
 
