@@ -5,8 +5,8 @@
 -- `Asked f l q r` is what `ask` promises, of a file and a layout, of a view, and of a file alone with its own layout: r is the answer to the
 -- question q over the file f and the layout l, right or wrong. `r ≡ by (answerOf f l q)` is what a function of one question promises: `by` makes
 -- its struct of an answer (`numberBy`, `partBy`, `markBy`, `typedBy`, `columnBy`, `setBy`, `saidBy`, `longBy`, `wordsBy`). `textOf f l q`, `longOf f l i j`
--- and `wordsOf f t l i j` are the bytes that the functions hand back that promise bytes. `Tells f l i j q n d w r` is what `cells_down`, `cells_along` and
--- `words_down` promise, of the answers to q 0, q 1, .. from cell i, j on. `Lists f t d w r` is what `long_list`, `set_list` and `sort_order` promise: r is the answer for the file f, of which the
+-- and `wordsOf f t l i j` are the bytes that the functions hand back that promise bytes. `Tells f l i j q n d w r` is what `cells_down`, `cells_along`, `words_down`
+-- and `words_across` promise, of the answers to q 0, q 1, .. from cell i, j on. `Lists f t d w r` is what `long_list`, `set_list` and `sort_order` promise: r is the answer for the file f, of which the
 -- numbers t are told, `longsOf f`, `setsOf f` or `sortedOf f`, into a slice that held d and then holds w. That each call ends is part of each
 -- function's proof, as is that it needs nothing of the file, the layout and the numbers that it is given.
 use mathlib.Core.Path.{_≡_}

@@ -20,7 +20,7 @@ element-copy-out-if2 c = omega arith
 returns-2 : tie.Need-returns-2
 returns-2 c =
     let a = c .before .before .before .before .before .args in
-    next-found (a .f .now) (layoutBy (a .l)) (a .v .now) (slice (a .f .now) (a .a) (a .n)) (a .t .now) (a .k) (omega arith) (c .if2 .taken)
+    next-found (a .f .now) (layoutBy (a .l)) (a .v .now) (slice (a .f .now) (a .a) (a .n)) (a .t .now) (a .k) (omega arith) (λ e. omega (arith, e, c .if2 .taken))
 
 mul-name-of : tie.Need-mul-name-of
 mul-name-of c = search needs
@@ -38,7 +38,7 @@ returns-3 : tie.Need-returns-3
 returns-3 c =
     let a = c .before .before .before .before .before .before .before .before .args in
     let s = named-same (a .f .now) (layoutBy (a .l)) (a .v .now) (a .k) (a .a) (a .n) (c .before .name-of .result) (c .before .name-of .ensures) (c .before .before .before .before .before .before .before .before .pre .0) _ (c .same-name .ensures) in
-    next-named (a .f .now) (layoutBy (a .l)) (a .v .now) (slice (a .f .now) (a .a) (a .n)) (a .t .now) (a .k) (omega arith) (c .before .before .before .if2 .left) _ s
+    next-named (a .f .now) (layoutBy (a .l)) (a .v .now) (slice (a .f .now) (a .a) (a .n)) (a .t .now) (a .k) (omega arith) (omega (arith, c .before .before .before .if2 .left)) _ s
 
 pub is-next-spec : {M : Type 1} → statement M
 is-next-spec =
