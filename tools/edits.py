@@ -23,10 +23,11 @@ it, and are part of the fact that no longer holds. `also:` has what else breaks 
 
 A proof that walks through its function's code step by step is changed with the code, as the walk of right code doesn't fit wrong code: proofs/FUNCTION/Proof.antt,
 where the edit changes that function's body. Such an edit may add a function that is proved and promises something else, for the body to call: its text in one line, in
-place of a comment between functions.
+place of a comment between functions. So may an edit of any other function, whose proof then follows in no more than this: how far back a place is (`.before`), and one need
+more, of the added function, which asks for nothing: `(λ c κs. tt)`. Definitions that the added function's contract names are added to a line of `ghost use`.
 
 Refused by this program:
-- an edit of a contract, which would only show that the proof doesn't prove something else, or of a proof but a walk that follows the code;
+- an edit of a contract, which would only show that the proof doesn't prove something else, or of a proof but one that follows the code as told above;
 - a file in which two edits change one function or name one law: what fails could be the other's;
 - an edit that changes the body of a function and names another one as refused, or a need that is not about what the function promises (see PROMISES);
 - an edit whose function or law does not fail, or fails first elsewhere, or for another reason, or for the form of its proof alone (see FORM); and, where the proof
@@ -164,11 +165,29 @@ def added_by(edit, pair, folder):
     return name if called and old in source.split("\n") and name not in ITEM.findall(source) else None
 
 
+def imports(edit, pair, folder):
+    """Whether a replacement only adds definitions to those that contracts can name, where the edit adds a function."""
+    path, old, new = pair
+    items = path.startswith("src/") and new.startswith(old) and re.fullmatch(r"ghost use [^;]*;( ghost use [^;]*;)+", new)
+    return bool(items) and any(added_by(edit, other, folder) for other in edit.pairs)
+
+
+def follows(edit, name, folder):
+    """Whether an edit that adds a function changes no more in a function's proof than how far back a place is, and the need of a callee that asks for nothing."""
+    changes = [(old, new) for path, old, new in edit.pairs if WALK.match(path) and WALK.match(path).group(1) == name]
+    return any(added_by(edit, pair, folder) for pair in edit.pairs) and all(plain_steps(old) == plain_steps(new) for old, new in changes)
+
+
+def plain_steps(line):
+    """A line of a proof without the steps back and the needs that ask for nothing."""
+    return line.replace(" .before", "").replace(" (λ c κs. tt)", "")
+
+
 def changed_by(edit, folder):
     """The functions whose bodies an edit changes, with none for a place outside any body; empty where it changes definitions."""
     names = set()
     for path, old, new in edit.pairs:
-        if path.startswith("src/") and not added_by(edit, (path, old, new), folder):
+        if path.startswith("src/") and not added_by(edit, (path, old, new), folder) and not imports(edit, (path, old, new), folder):
             source = read(os.path.join(folder, path))
             # or a text that an earlier replacement of this edit put there
             at = source.find(old) if old in source else source.find(edit.pairs[0][1])
@@ -201,8 +220,8 @@ def form_faults(edits, folder):
         if None in changed or any(not path.startswith(("src/", "specs/")) and not WALK.match(path) for path, _, _ in edit.pairs):
             faults.append(f"{edit.name} changes a contract, a law or what stands between functions: change the body of a function, or a definition")
             continue
-        if not edit.walks() <= {name for name in changed if is_walked(name, folder)}:
-            faults.append(f"{edit.name} changes the proof of a function that is not walked by hand, or whose body it leaves")
+        if not edit.walks() <= {name for name in changed if is_walked(name, folder) or follows(edit, name, folder)}:
+            faults.append(f"{edit.name} changes the proof of a function that is not walked by hand, or whose body it leaves, by more than follows from its code")
             continue
         for key in changed or {claim.key for claim in edit.claims}:
             if key in seen:
@@ -329,7 +348,7 @@ def split(edits, folder, crate):
             file.write("\n".join(edit.lines) + "\n")
         if edit.walks():
             with open(os.path.join(folder, f"{edit.name}{PROOF_ALONE}.edit"), "w", encoding="utf-8") as file:
-                file.writelines("file: {}\nold: {}\nnew: {}\n".format(*pair) for pair in edit.pairs if WALK.match(pair[0]) or added_by(edit, pair, crate))
+                file.writelines("file: {}\nold: {}\nnew: {}\n".format(*pair) for pair in edit.pairs if WALK.match(pair[0]) or added_by(edit, pair, crate) or imports(edit, pair, crate))
 
 
 def alone_fault(edit, log, copy, folder):

@@ -9,7 +9,9 @@ import unittest
 
 import edits
 
-SOURCE = """// One more.
+SOURCE = """ghost use c.specs.Path.{_≡_};
+
+// One more.
 pub fn more(n: u8) -> u8
     requires { ⌜ n < 255 ⌝ }
     ensures { λ r. ⌜ r ≡ n + 1 ⌝ }
@@ -56,6 +58,23 @@ use c.proofs.calls.Code as code
 walk : code.function ≡ callee.function
 walk = refl
 """
+FOLLOWED = """# more_for_few: one is added
+# refused: more returns: .few .result` (found)
+file: src/lib.rt
+old: ghost use c.specs.Path.{_≡_};
+new: ghost use c.specs.Path.{_≡_}; ghost use c.specs.Few.{fewOf};
+old: // One more.
+new: fn few(n: u8) -> u8 ensures { λ r. ⌜ r ≡ fewOf n ⌝ } { if n < 9 { n } else { 0 } }
+old:     n + 1
+new:     few(n) + 1
+file: proofs/more/Proof.antt
+old: returns c = sum (c .before .args .n) (c .if1 .left)
+new: returns c = sum (c .before .before .args .n) (c .before .if1 .left)
+old: more-spec = tie.close (tie.spec returns)
+new: more-spec = tie.close (tie.spec (λ c κs. tt) returns)
+"""
+FOLLOW_FAILS = "{at}/proofs/more/Proof.antt:3:9: error: `returns`: the two types differ only where one has `.args .n` (expected)\n  and the other has `.few .result` (found)\n"
+FOLLOW_LINES = "fn c::few: proved\n" + "fn c::more: not proved\n"
 RULE = """# rule_less: twice is two times
 # refused: Laws double-is: `3` (expected)
 # also: Laws double-more, twice returns-2
@@ -65,7 +84,7 @@ new: double n = 3 * n
 """
 MORE_FAILS = "{at}/proofs/more/Proof.antt:3:9: error: `returns`: the two types differ only where one has `2` (expected)\n  and the other has `1` (found)\n"
 MORE_SPEC = "{at}/proofs/more/Proof.antt:5:9: error: `more-spec`: `returns` was not admitted (it has holes or undetermined implicits, or was rejected), so this cannot be checked\n"
-TWICE_FAILS = "note: what antt said of a `search` in the proof that rattle made: {at}/src/lib.rt:9:1: `returns-2`: `search`: no proof\n  of `double n` was found\n"
+TWICE_FAILS = "note: what antt said of a `search` in the proof that rattle made: {at}/src/lib.rt:11:1: `returns-2`: `search`: no proof\n  of `double n` was found\n"
 MORE_LINE = "fn c::more: not proved\n"
 TWICE_LINE = "fn c::twice: no proof: expected `twice-spec` in {at}/proofs/twice/Proof.antt; `search` does not close `returns-2`\n"
 CALLS_LINE = "fn c::calls: not proved; it calls `c::more`, which is not proved\n"
@@ -110,6 +129,9 @@ class Judged(unittest.TestCase):
     def test_a_walk_that_follows_the_code(self):
         self.assertEqual(self.judge(WALKED, WALK_FAILS, WALK_LINES, END), [])
         self.assertEqual(self.judge(WALKED + "\n" + TWICE, WALK_FAILS, TWICE_FAILS, TWICE_LINE, WALK_LINES, END), [])
+
+    def test_a_proof_that_follows_a_callee_more(self):
+        self.assertEqual(self.judge(FOLLOWED, FOLLOW_FAILS, MORE_SPEC, FOLLOW_LINES, CALLS_LINE, END), [])
 
     # what must be refused: logs
 
@@ -276,6 +298,19 @@ class Judged(unittest.TestCase):
         self.assertEqual(self.form(WALKED), [])
         for old, new in (("    by_two(n)", "    more(n + 1)"), ("by_two", "twice"), ("fn by_two", "let by_two"), ("old: // One more.", "old: fn twice(n: u8) -> u8"), ("old: // One more.", "old: // One"), (" { n + 2 }", ""), (" ensures { λ r. ⌜ r ≡ n + 2 ⌝ }", ""), (WALKED[WALKED.index("file: proofs") :], "")):
             self.refused(self.form(WALKED.replace(old, new)), "changes a contract")
+
+    def test_a_proof_that_does_more_than_follow(self):
+        self.assertEqual(edits.changed_by(edits.edits_of(FOLLOWED)[0], self.folder.name), {"more"})
+        for old, new in (("new: returns c = sum", "new: returns c = other"), ("new: more-spec = tie.close (tie.spec (λ c κs. tt)", "new: more-spec = tie.close (tie.spec other"), ("(c .before .before .args .n)", "(c .before .before .args .m)")):
+            self.assertIn(old, FOLLOWED)
+            self.refused(self.form(FOLLOWED.replace(old, new)), "by more than follows from its code")
+        # without a function that is added
+        follows = FOLLOWED[FOLLOWED.index("file: proofs") :]
+        self.refused(self.form(MORE + follows), "by more than follows from its code")
+        # other lines between functions
+        self.refused(self.form(FOLLOWED.replace("new: ghost use c.specs.Path.{_≡_}; ghost use c.specs.Few.{fewOf};", "new: ghost use c.specs.Few.{_≡_, fewOf};")), "changes a contract")
+        self.refused(self.form(FOLLOWED.replace("; ghost use c.specs.Few.{fewOf};", "; use few::Few;")), "changes a contract")
+        self.refused(self.form(MORE + FOLLOWED[FOLLOWED.index("old: ghost") : FOLLOWED.index("old: //")]), "changes a contract")
 
     def test_files_that_are_no_edits(self):
         for text in ("", "# a comment\n", MORE.replace("# refused: more returns: `2` (expected)\n", ""), MORE.replace("# more_by_two: one is added\n", ""),
