@@ -27,17 +27,11 @@ use Rattle.columns.specs.Columns.{capped, columnBy}
 use Rattle.columns.proofs.ColumnLaws.{capped-small, types-at}
 use Rattle.cells.proofs.CellLaws.{Is, away, shut, lost, here, cases}
 use Rattle.coded.specs.Coded.{least}
+use Rattle.cell_runs.proofs.RunLaws.{least-both}
 use Rattle.cell_runs.proofs.NextLaws.{in-among, types-inside, Next, Along, along-start, along-next, along-end}
 use Rattle.column_list.specs.Offsets.{Offsets}
 
 -- ---- the list is filled
-
-least-in : (a b : ℕ) → (least a b ≤ a) × (least a b ≤ b)
-least-in a b = go (leb a b) refl
-  where
-    go : (x : Bool) → leb a b ≡ x → (least a b ≤ a) × (least a b ≤ b)
-    go true e = rw e (omega arith, leb-true a b e)
-    go false e = rw e (omega (arith, leb-false a b e), omega arith)
 
 least-most : (a b i : ℕ) → i ≤ a → i ≤ b → i ≤ least a b
 least-most a b i h k = go (leb a b) refl
@@ -60,7 +54,7 @@ listed-start f l d D t T n N = record { long = T; count = N; few = omega arith; 
 module _ {f : List ℕ} {l : Layout} {d : Column} {n : ℕ} {t : List ℕ} {m : ℕ} {c : Column} (L : Listed f l d n t m c) where
   module _ (h : m < n) where
     pub listed-in : (m < 32768) × (m + 1 ≤ l .variables)
-    listed-in = let b = least-in 32768 (l .variables) in (omega (arith, h, L .count, b .0), omega (arith, h, L .count, b .1))
+    listed-in = let b = least-both 32768 (l .variables) in (omega (arith, h, L .count, b .0), omega (arith, h, L .count, b .1))
 
     abbrev one : 1 + m ≡ m + 1
     one = omega arith

@@ -49,4 +49,4 @@ module _ (f : List ℕ) where
     unfolding nameOf
     set-named p e =
         subst (λ (p : Part). IsName f l i (record { at = p .at; len = p .len })) (sym e)
-        (record { is = set-shown; inside = set-inside })
+        (record { place = refl; is = set-shown; inside = set-inside })

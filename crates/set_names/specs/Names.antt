@@ -7,14 +7,21 @@ use lib.ListN.{length, getD}
 use lib.Dec.{eqb, ltb}
 use Rattle.format.specs.Dta.{Layout}
 use Rattle.questions.specs.Ask.{answerOf, askSet, slice, shown}
+use Rattle.answers.specs.declared.Part.{Part}
+use Rattle.answers.specs.Answers.{partBy}
 use Rattle.set_names.specs.declared.Name.{Name}
 
 -- the label-set name of variable i; empty where it is refused
 unfoldable pub nameOf : List ℕ → Layout → ℕ → List ℕ
 nameOf f l i = shown f (answerOf f l (askSet i))
 
--- r is where it stands
+-- where a part of the file stands
+abbrev pub nameBy : Part → Name
+nameBy p = record { at = p .at; len = p .len }
+
+-- r is where it stands; of a refusal place and length are 0
 pub record IsName (f : List ℕ) (l : Layout) (i : ℕ) (r : Name) : Type 0 where
+  pub place : r ≡ nameBy (partBy (answerOf f l (askSet i)))
   pub is : slice f (r .at) (r .len) ≡ nameOf f l i
   pub inside : r .at + r .len ≤ length f
 

@@ -6,7 +6,7 @@ use mathlib.Core.List.{List, []}
 use mathlib.Core.Bool.{Bool, true, false, false≢true}
 use lib.ListN.{length, getD}
 use lib.Dec.{eqb}
-use borrow.Author.Tests.{eqb-true, eqb-false, ne-eqb}
+use borrow.Author.Tests.{le-leb, lt-leb, eqb-true, eqb-false, ne-eqb}
 use Rattle.format.specs.Number.{orderBy}
 use Rattle.format.specs.Edition.{n-value-label-names, n-value-labels}
 use Rattle.format.specs.Dta.{Layout}
@@ -22,8 +22,8 @@ use Rattle.walks.specs.Walks.{blockLabels}
 use Rattle.walks.proofs.BlockLaws.{starts, come-plain}
 use Rattle.walks.proofs.TextLaws.{TextGot, text-none, text-got}
 use Rattle.label_words.proofs.WordLaws.{set-none, set-empty, set-walk, set-open}
-use Rattle.set_names.specs.Names.{nameOf, nameAt}
-use Rattle.set_tables.specs.Tables.{tableOf, numberOf, Alike, Started, Passed, Found}
+use Rattle.set_names.specs.Names.{nameOf, nameAt, inOrder}
+use Rattle.set_tables.specs.Tables.{tableOf, numberOf, Alike, Started, Passed, canFind, Found}
 use Rattle.set_tables.proofs.SameLaws.{slice-long}
 
 -- the width of names in an edition, read or not
@@ -148,6 +148,19 @@ module _ (f : List ℕ) (l : Layout) (q : Opened) (Q : q ≡ openedBy (editionIn
               ap (tableOf 0) e ∙ ap lenless (come-plain (q .e .tagged) (q .e .«name_width») (orderBy (q .msf)) f s z p p (starts (q .e .tagged) (q .e .«name_width») (orderBy (q .msf)) f s z p) h (noSet 0) refl));
           others = λ k i e. refl;
         })
+
+-- ---- whether they can be found at once
+
+module _ (f : List ℕ) (l : Layout) (v : List ℕ) where
+  pub find-many : 32768 < length v → false ≡ canFind f l v
+  find-many h = rw (lt-leb (length v) 32768 h)
+
+  module _ (h : length v ≤ 32768) where
+    pub find-unordered : inOrder f l v ≡ false → false ≡ canFind f l v
+    find-unordered e = rw (le-leb (length v) 32768 h, e)
+
+    pub find-ordered : inOrder f l v ≡ true → true ≡ canFind f l v
+    find-ordered e = rw (le-leb (length v) 32768 h, e)
 
 -- .. where the variables are not in order
 pub found-none : (f : List ℕ) (l : Layout) (v t : List ℕ) → Found f l v t (record { there = false; code = 0 })

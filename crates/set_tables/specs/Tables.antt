@@ -4,7 +4,7 @@ use Prim.Native.Nat.{ℕ, zero, suc, _+_, _≤_, _<_}
 use mathlib.Core.List.{List}
 use mathlib.Core.Bool.{Bool, true, false, cond, _&&_}
 use lib.ListN.{length, getD}
-use lib.Dec.{eqb, ltb}
+use lib.Dec.{eqb, leb, ltb}
 use Rattle.format.specs.Number.{Order}
 use Rattle.format.specs.Dta.{Layout, sameList}
 use Rattle.questions.specs.Ask.{answerOf, askSet, askTable}
@@ -13,7 +13,7 @@ use Rattle.answers.specs.Answers.{partBy}
 use Rattle.walks.specs.declared.LabelSet.{LabelSet}
 use Rattle.walks.specs.Answers.{noSet, setBy, lenless}
 use Rattle.walks.specs.Walks.{blockLabels}
-use Rattle.set_names.specs.Names.{nameAt}
+use Rattle.set_names.specs.Names.{nameAt, inOrder}
 use Rattle.set_tables.specs.declared.Tables.{Tables}
 
 -- the label set of a number, but for its length: 0 where no block was found, which gives the answer c; 1 and 2 refused with 16 and 17; 3 without labels; else
@@ -56,6 +56,10 @@ numberOf p = cond (eqb (p .code) 16) 1 (cond (eqb (p .code) 0) (cond (eqb (p .le
 pub record Started (f : List ℕ) (l : Layout) (v t : List ℕ) : Type 0 where
   pub long : length t ≡ 32768
   pub each : (k : ℕ) → k < length v → getD t k 0 ≡ numberOf (partBy (answerOf f l (askSet (getD v k 0))))
+
+-- they can be found at once: there are at most 32,768 variables, listed in the order of their names
+abbrev pub canFind : List ℕ → Layout → List ℕ → Bool
+canFind f l v = leb (length v) 32768 && inOrder f l v
 
 -- where r says that they are found, t has the label table of each variable of the list v
 pub record Found (f : List ℕ) (l : Layout) (v t : List ℕ) (r : Tables) : Type 0 where

@@ -54,7 +54,7 @@ column-at-requires : tie.Need-column-at-requires Inv-loop μ-loop
 column-at-requires c κs = c .before .before .before .before .before .before .before .before .list-offsets .ensures
 
 set-at-requires : tie.Need-set-at-requires Inv-loop μ-loop
-set-at-requires c κs = (c .before .before .before .before .before .before .before .before .find-tables .ensures, c .before .before .before .before .before .loop-test .taken, refl)
+set-at-requires c κs = (c .before .before .before .before .before .before .before .before .find-tables .ensures .1, c .before .before .before .before .before .loop-test .taken, refl)
 
 text-area-requires : tie.Need-text-area-requires Inv-loop μ-loop
 text-area-requires c κs = search needs
