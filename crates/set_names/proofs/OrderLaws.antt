@@ -8,6 +8,7 @@ use lib.ListN.{length}
 use lib.Dec.{eqb, ltb}
 use borrow.Author.Tests.{eqb-true, eqb-false, eq-eqb, ne-eqb, ltb-true, ltb-false, lt-ltb, not-true}
 use Rattle.format.specs.Dta.{Layout, sameList}
+use Rattle.format.proofs.Good.{and-left, and-right}
 use Rattle.set_names.specs.Names.{less, nameAt, orderedTo, inOrder, IsFirst}
 
 -- ---- the order
@@ -114,19 +115,15 @@ other-more a b h k = go (less b a) refl
 
 -- ---- names in order
 
-both-true : (a b : Bool) → (a && b) ≡ true → (a ≡ true) × (b ≡ true)
-both-true true b h = (refl, h)
-both-true false b h = absurd (false≢true h)
-
 module _ (f : List ℕ) (l : Layout) (v : List ℕ) where
   -- each of the first names is not before the one that it follows
   pub ordered-next : (n : ℕ) → orderedTo f l v n ≡ true → (k : ℕ) → k < n → less (nameAt f l v (suc k)) (nameAt f l v k) ≡ false
   unfolding orderedTo
   ordered-next zero h k b = absurd (omega (arith, b))
-  ordered-next (suc n) h k b = go (eqb k n) refl (ordered-next n (both-true _ _ h .0))
+  ordered-next (suc n) h k b = go (eqb k n) refl (ordered-next n (and-left _ _ h))
     where
       go : (t : Bool) → eqb k n ≡ t → ((k : ℕ) → k < n → less (nameAt f l v (suc k)) (nameAt f l v k) ≡ false) → less (nameAt f l v (suc k)) (nameAt f l v k) ≡ false
-      go true e r = rw (eqb-true k n e) (not-true _ (both-true (orderedTo f l v n) _ h .1))
+      go true e r = rw (eqb-true k n e) (not-true _ (and-right (orderedTo f l v n) _ h))
       go false e r = r k (omega (arith, b, eqb-false k n e))
 
   -- none stands before one that is listed before it
