@@ -5,8 +5,6 @@ use checking::Layout;
 use coded::Run;
 use set_tables::Tables;
 use walks::LabelSet;
-use word_runs::Area;
-use word_runs::Listing;
 ghost use mathlib.Core.Path.{_≡_};
 ghost use mathlib.Core.List.{_++_};
 ghost use Prim.Native.Nat.{_*_, _/_, _≤_, _<_};
@@ -17,8 +15,6 @@ ghost use Rattle.walks.specs.Answers.{setBy, lenless};
 ghost use Rattle.coded.specs.Coded as Coded;
 ghost use Rattle.coded.specs.Coded.{told, following};
 ghost use Rattle.set_tables.specs.Tables.{Found};
-ghost use Rattle.word_runs.specs.Areas.{InFile};
-ghost use Rattle.word_runs.specs.Words.{ListingFits};
 ghost use Rattle.word_columns.specs.Across.{wordsAcross, rowsFrom, TellsAcross};
 
 // The first number; 0 where there is none.
@@ -52,18 +48,6 @@ fn set_at(f: &[u8], l: Layout, v: &[u64], t: &[u64; 32768], r: Tables, k: usize,
     label_words::set_of(f, l, i)
 }
 
-// What is listed of the text area `y`, where `x` is what is listed of `g`: the same where they are one, else nothing.
-fn resumed(t: &mut [u32; 20737], f: &[u8], g: Area, y: Area, x: Listing) -> Listing
-    requires { ⌜ (ListingFits (now f) g (now t) x) × (InFile (now f) y) ⌝ }
-    ensures { λ r. ⌜ ListingFits (now (f .entry)) y (now (t .exit)) r ⌝ }
-{
-    if (g.at == y.at) & (g.len == y.len) {
-        return x;
-    }
-    t[0] = 0;
-    Listing { had: 0, spent: 0 }
-}
-
 // The label words of the listed variables in `h` observations from `j` on, four numbers each, one variable after another, as many as `out` has room for; how many
 // that are.
 fn columns_in(f: &[u8], l: Layout, v: &[u64], j: u64, h: u64, out: &mut [u64]) -> usize
@@ -71,14 +55,12 @@ fn columns_in(f: &[u8], l: Layout, v: &[u64], j: u64, h: u64, out: &mut [u64]) -
     ensures { λ r. ⌜ (r ≡ Coded.least (length (now (out .entry)) / 4) (length (now (v .entry)) * h)) × (now (out .exit) ≡ told (now (f .entry)) (layoutBy l) (wordsAcross (now (v .entry)) j h) r ++ drop (r * 4) (now (out .entry))) ⌝ }
 {
     let n = out.len() / 4;
-    let o = reading::edition_in(l.edition, l.order);
     let mut a = [0u64; 32768];
     let first = column_list::list_offsets(&mut a, f, l);
     let mut b = [0u64; 32768];
     let tables = set_tables::find_tables(&mut b, f, l, v);
     let mut t = [0u32; 20737];
-    let mut g = word_runs::no_area();
-    let mut x = Listing { had: 0, spent: 0 };
+    let mut x = word_runs::no_listing();
     let mut at: usize = 0;
     let mut k: usize = 0;
     while k < v.len() {
@@ -88,11 +70,8 @@ fn columns_in(f: &[u8], l: Layout, v: &[u64], j: u64, h: u64, out: &mut [u64]) -
         let i = v[k];
         let c = column_list::column_at(f, l, &a, first, i);
         let s = set_at(f, l, v, &b, tables, k, i);
-        let y = word_runs::text_area(f, s, o.msf);
-        x = resumed(&mut t, f, g, y, x);
-        g = y;
         let m = cell_runs::least(n - at, h);
-        x = word_runs::words_in(f, l, i, j, m, c, s, g, &mut t, x, &mut out[at * 4..]);
+        x = word_runs::words_in(f, l, i, j, m, c, s, &mut t, x, &mut out[at * 4..]);
         at += m;
         k += 1;
     }

@@ -15,29 +15,43 @@ ghost use Rattle.asking.specs.Asking.{answerBy, byWords};
 ghost use Rattle.walks.specs.Walks.{endedBy};
 ghost use Rattle.text_ends.specs.Ends.{Ends};
 ghost use Rattle.word_runs.specs.Areas.{noArea, InFile, standsIn};
-ghost use Rattle.word_runs.specs.Words.{wordsDown, ColumnGiven, ListingFits};
+ghost use Rattle.word_runs.specs.Words.{wordsDown, ColumnGiven, noListing, ListingFits};
 ghost use Rattle.coded.specs.Coded.{numbersOf, told, following, Tells};
 
 // The text area of a label table, by place and length.
-pub struct Area {
-    pub at: usize,
-    pub len: usize,
+struct Area {
+    at: usize,
+    len: usize,
 }
 
-// How many bytes of a text area have their ends listed, none or all, and how many text bytes were gone through.
+// What is listed of a text area, by place and length: how many of its bytes have their ends listed, none or all, and how many text bytes were gone through.
 pub struct Listing {
+    pub at: usize,
+    pub len: usize,
     pub had: usize,
     pub spent: u64,
 }
 
-pub fn no_area() -> Area
+// Nothing is listed.
+pub fn no_listing() -> Listing
+    ensures { λ r. ⌜ r ≡ noListing ⌝ }
+{
+    Listing {
+        at: 0,
+        len: 0,
+        had: 0,
+        spent: 0,
+    }
+}
+
+fn no_area() -> Area
     ensures { λ r. ⌜ r ≡ noArea ⌝ }
 {
     Area { at: 0, len: 0 }
 }
 
 // The text area of a label set's table, where it lies in the file and has no more bytes than an accepted file's can have; else an empty one.
-pub fn text_area(f: &[u8], s: LabelSet, msf: bool) -> Area
+fn text_area(f: &[u8], s: LabelSet, msf: bool) -> Area
     ensures { λ r. ⌜ InFile (now (f .entry)) r ⌝ }
 {
     if !s.found {
@@ -136,8 +150,25 @@ fn put_words(out: &mut [u64], x: Words)
     coded::put_four(out, coded::numbers_of(asking::by_words(x)));
 }
 
-// The label words of variable `i` in `n` observations from `j` on, four numbers each, where `c` is where its cells stand, `s` its label set, which has the text
-// area `g`, and `t` and `x` tell of the ends that are listed; how many then are.
+// What is listed of the text area `g`, where `x` is what is listed: the same where it is of that area, else nothing.
+fn resumed(t: &mut [u32; 20737], f: &[u8], x: Listing, g: Area) -> Listing
+    requires { ⌜ (ListingFits (now f) (now t) x) × (InFile (now f) g) ⌝ }
+    ensures { λ r. ⌜ ListingFits (now (f .entry)) (now (t .exit)) r ⌝ }
+{
+    if (x.at == g.at) & (x.len == g.len) {
+        return x;
+    }
+    t[0] = 0;
+    Listing {
+        at: g.at,
+        len: g.len,
+        had: 0,
+        spent: 0,
+    }
+}
+
+// The label words of variable `i` in `n` observations from `j` on, four numbers each, where `c` is where its cells stand, `s` its label set, and `t` and `x` tell of
+// the ends that are listed; what then is.
 pub fn words_in(
     f: &[u8],
     l: Layout,
@@ -146,20 +177,20 @@ pub fn words_in(
     n: usize,
     c: Column,
     s: LabelSet,
-    g: Area,
     t: &mut [u32; 20737],
     x: Listing,
     out: &mut [u64],
 ) -> Listing
-    requires { ⌜ (ColumnGiven (now f) (layoutBy l) i c s) × (ListingFits (now f) g (now t) x) × (n * 4 ≤ length (now out)) × (j + n ≤ 18446744073709551616) ⌝ }
-    ensures { λ r. ⌜ (now (out .exit) ≡ told (now (f .entry)) (layoutBy l) (wordsDown i j) n ++ drop (n * 4) (now (out .entry))) × (ListingFits (now (f .entry)) g (now (t .exit)) r) ⌝ }
+    requires { ⌜ (ColumnGiven (now f) (layoutBy l) i c s) × (ListingFits (now f) (now t) x) × (n * 4 ≤ length (now out)) × (j + n ≤ 18446744073709551616) ⌝ }
+    ensures { λ r. ⌜ (now (out .exit) ≡ told (now (f .entry)) (layoutBy l) (wordsDown i j) n ++ drop (n * 4) (now (out .entry))) × (ListingFits (now (f .entry)) (now (t .exit)) r) ⌝ }
 {
     let o = reading::edition_in(l.edition, l.order);
     let start = cell_runs::place_of(l, 9);
     let gap = reading::tag_size(o.e.tagged, 6);
     let kind = c.kind;
-    let mut had = x.had;
-    let mut spent = x.spent;
+    let y = resumed(t, f, x, text_area(f, s, o.msf));
+    let mut had = y.had;
+    let mut spent = y.spent;
     let mut m: usize = 0;
     while m < n {
         let row = cells::row_in(f, c.code, c.row, j + m as u64, l.n, start, gap);
@@ -174,13 +205,18 @@ pub fn words_in(
             o.msf,
         );
         let w = label_words::cell_place(f, s, said, o.msf);
-        let y = ended_by(f, t, g.at, had, w);
-        put_words(&mut out[m * 4..], y);
-        spent = spent_with(spent, y.len);
-        had = listed(t, f, g.at, g.len, had, spent);
+        let e = ended_by(f, t, y.at, had, w);
+        put_words(&mut out[m * 4..], e);
+        spent = spent_with(spent, e.len);
+        had = listed(t, f, y.at, y.len, had, spent);
         m += 1;
     }
-    Listing { had, spent }
+    Listing {
+        at: y.at,
+        len: y.len,
+        had,
+        spent,
+    }
 }
 
 // The label words of variable `i` from observation `j` on, four numbers each, as many as `out` has room for.
@@ -188,10 +224,8 @@ pub fn words_down(f: &[u8], l: Layout, i: u64, j: u64, out: &mut [u64]) -> Run
     ensures { λ r. ⌜ Tells (now (f .entry)) (layoutBy l) i j (wordsDown i j) (following j (l .n)) (now (out .entry)) (now (out .exit)) r ⌝ }
 {
     let r = cell_runs::run_of(l, i, j, j, l.n, out.len());
-    let o = reading::edition_in(l.edition, l.order);
     let c = columns::column_of(f, l, i);
     let s = label_words::set_of(f, l, i);
-    let g = text_area(f, s, o.msf);
     let mut t = [0u32; 20737];
     words_in(
         f,
@@ -201,9 +235,8 @@ pub fn words_down(f: &[u8], l: Layout, i: u64, j: u64, out: &mut [u64]) -> Run
         r.count,
         c,
         s,
-        g,
         &mut t,
-        Listing { had: 0, spent: 0 },
+        no_listing(),
         &mut out[..],
     );
     r

@@ -95,9 +95,11 @@ returns-4 c =
     let a = c .before .before .before .before .before .before .before .before .before .before .before .before .before .before .before .before .before .args in
     let o = c .before .before .before .before .before .before .before .before .before .edition-in in
     let n = c .before .before .before .before .before .before .before .before .before .before .start-numbers in
-    let s = getD (a .t3 .places) 11 0 in
-    (in-order-here (c .before .before .before .before .before .before .before .before .before .before .before .before), found-passed (a .f .now) (layoutBy (a .t3)) (o .result) (o .ensures) (a .v .now) (n .last .0) (n .ensures) (c .before .before .before .before .before .before .less .result) (s + c .before .before .tag-size2 .result) (ended (c .before .before .before .before .before .before))
-    (start-is (o .result .e .tagged) n-value-labels 14 s (c .before .before .tag-size2 .result) refl (c .before .before .tag-size2 .ensures)) (c .pass .last .0) (c .pass .result) (c .pass .ensures))
+    let s = getD (a .t3 .places) 11 0 in (
+      in-order-here (c .before .before .before .before .before .before .before .before .before .before .before .before),
+      found-passed (a .f .now) (layoutBy (a .t3)) (o .result) (o .ensures) (a .v .now) (n .last .0) (n .ensures) (c .before .before .before .before .before .before .less .result) (s + c .before .before .tag-size2 .result) (ended (c .before .before .before .before .before .before))
+          (start-is (o .result .e .tagged) n-value-labels 14 s (c .before .before .tag-size2 .result) refl (c .before .before .tag-size2 .ensures)) (c .pass .last .0) (c .pass .result) (c .pass .ensures),
+    )
 
 pub find-tables-spec : {M : Type 1} → statement M
 find-tables-spec =
