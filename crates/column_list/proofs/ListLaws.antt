@@ -29,7 +29,7 @@ use Rattle.cells.proofs.CellLaws.{Is, away, shut, lost, here, cases}
 use Rattle.coded.specs.Coded.{least}
 use Rattle.cell_runs.proofs.RunLaws.{least-both}
 use Rattle.cell_runs.proofs.NextLaws.{in-among, types-inside, Next, Along, along-start, along-next, along-end}
-use Rattle.column_list.specs.Offsets.{Offsets}
+use Rattle.column_list.specs.Offsets.{Offsets, Kept}
 
 -- ---- the list is filled
 
@@ -40,18 +40,19 @@ least-most a b i h k = go (leb a b) refl
     go true e = rw e h
     go false e = rw e k
 
--- t has the offsets of variables 1 to m of the n that are listed; d is the column of variable 1, c that of the variable after m
-pub record Listed (f : List ℕ) (l : Layout) (d : Column) (n : ℕ) (t : List ℕ) (m : ℕ) (c : Column) : Type 0 where
+-- t, which was s, has the offsets of variables 1 to m of the n that are listed, and else what it had; d is the column of variable 1, c that of the variable after m
+pub record Listed (f : List ℕ) (l : Layout) (d : Column) (n : ℕ) (s t : List ℕ) (m : ℕ) (c : Column) : Type 0 where
   pub long : length t ≡ 32768
   pub count : n ≡ least 32768 (l .variables)
   pub few : m ≤ n
   pub along : Along f l 1 d m c
   pub each : (i : ℕ) → 1 ≤ i → i ≤ m → getD t (i - 1) 0 ≡ columnBy (answerOf f l (askColumn i)) .offset
+  pub kept : Kept m s t
 
-pub listed-start : (f : List ℕ) (l : Layout) (d : Column) → d ≡ columnBy (answerOf f l (askColumn 1)) → (t : List ℕ) → length t ≡ 32768 → (n : ℕ) → n ≡ least 32768 (l .variables) → Listed f l d n t 0 d
-listed-start f l d D t T n N = record { long = T; count = N; few = omega arith; along = along-start f l 1 d D; each = λ i a b. absurd (omega (arith, a, b)) }
+pub listed-start : (f : List ℕ) (l : Layout) (d : Column) → d ≡ columnBy (answerOf f l (askColumn 1)) → (t : List ℕ) → length t ≡ 32768 → (n : ℕ) → n ≡ least 32768 (l .variables) → Listed f l d n t t 0 d
+listed-start f l d D t T n N = record { long = T; count = N; few = omega arith; along = along-start f l 1 d D; each = λ i a b. absurd (omega (arith, a, b)); kept = λ k h. refl }
 
-module _ {f : List ℕ} {l : Layout} {d : Column} {n : ℕ} {t : List ℕ} {m : ℕ} {c : Column} (L : Listed f l d n t m c) where
+module _ {f : List ℕ} {l : Layout} {d : Column} {n : ℕ} {s t : List ℕ} {m : ℕ} {c : Column} (L : Listed f l d n s t m c) where
   module _ (h : m < n) where
     pub listed-in : (m < 32768) × (m + 1 ≤ l .variables)
     listed-in = let b = least-both 32768 (l .variables) in (omega (arith, h, L .count, b .0), omega (arith, h, L .count, b .1))
@@ -72,17 +73,17 @@ module _ {f : List ℕ} {l : Layout} {d : Column} {n : ℕ} {t : List ℕ} {m : 
         let g = eqb-false i (m + 1) q in
         getD-set-other t m (i - 1) (c .offset) 0 (λ x. g (omega (arith, a, x))) ∙ L .each i a (omega (arith, b, g))
 
-    on : {r : Column} → Along f l 1 d (m + 1) r → Listed f l d n (set t m (c .offset)) (m + 1) r
-    on A = record { long = length-set t m (c .offset) ∙ L .long; count = L .count; few = omega (arith, h); along = A; each = λ i a b. told i a b (eqb i (m + 1)) refl }
+    on : {r : Column} → Along f l 1 d (m + 1) r → Listed f l d n s (set t m (c .offset)) (m + 1) r
+    on A = record { long = length-set t m (c .offset) ∙ L .long; count = L .count; few = omega (arith, h); along = A; each = λ i a b. told i a b (eqb i (m + 1)) refl; kept = λ k b. getD-set-other t m k (c .offset) 0 (λ x. omega (arith, b, x)) ∙ L .kept k (omega (arith, b)) }
 
-    pub listed-next : {r : Column} → Next f l (m + 1) c r → Listed f l d n (set t m (c .offset)) (m + 1) r
+    pub listed-next : {r : Column} → Next f l (m + 1) c r → Listed f l d n s (set t m (c .offset)) (m + 1) r
     listed-next {r} N = on (along-next (L .along) (subst (λ (x : ℕ). Next f l x c r) (sym one) N))
 
-    pub listed-last : l .variables ≤ m + 1 → Listed f l d n (set t m (c .offset)) (m + 1) c
+    pub listed-last : l .variables ≤ m + 1 → Listed f l d n s (set t m (c .offset)) (m + 1) c
     listed-last b = on (along-end (L .along) (omega (arith, b)))
 
-  pub listed-all : n ≤ m → d ≡ columnBy (answerOf f l (askColumn 1)) → Offsets f l t d
-  listed-all b D = record { long = L .long; first = D; each = λ i x y z. L .each i x (omega (arith, b, L .count, least-most 32768 (l .variables) i z y)) }
+  pub listed-all : n ≤ m → d ≡ columnBy (answerOf f l (askColumn 1)) → (Offsets f l t d) × (Kept (least 32768 (l .variables)) s t)
+  listed-all b D = (record { long = L .long; first = D; each = λ i x y z. L .each i x (omega (arith, b, L .count, least-most 32768 (l .variables) i z y)) }, λ k h. L .kept k (omega (arith, h, L .few, L .count)))
 
 -- ---- a column by the list
 

@@ -8,6 +8,10 @@ use Rattle.questions.specs.Ask.{answerOf, askColumn}
 use Rattle.columns.specs.declared.Column.{Column}
 use Rattle.columns.specs.Columns.{columnBy}
 
+-- u has what t has from place n on
+abbrev pub Kept : ℕ → List ℕ → List ℕ → Type 0
+Kept n t u = (k : ℕ) → n ≤ k → getD u k 0 ≡ getD t k 0
+
 -- r is where the cells of variable 1 stand, and t lists the offsets of the first 32,768 variables
 pub record Offsets (f : List ℕ) (l : Layout) (t : List ℕ) (r : Column) : Type 0 where
   pub long : length t ≡ 32768

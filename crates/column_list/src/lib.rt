@@ -6,12 +6,13 @@ ghost use lib.ListN.{length};
 ghost use Rattle.questions.specs.Ask.{answerOf, askColumn};
 ghost use Rattle.checking.specs.Checks.{layoutBy};
 ghost use Rattle.columns.specs.Columns.{columnBy};
-ghost use Rattle.column_list.specs.Offsets.{Offsets};
+ghost use Rattle.column_list.specs.Offsets.{Offsets, Kept};
+ghost use Rattle.coded.specs.Coded.{least};
 
 // Lists the offsets of the cells of variables 1, 2, .. in a row, of the first 32,768; gives where the cells of variable 1 stand.
 pub fn list_offsets(t: &mut [u64; 32768], f: &[u8], l: Layout) -> Column
     requires { ⌜ length (now t) ≡ 32768 ⌝ }
-    ensures { λ r. ⌜ Offsets (now (f .entry)) (layoutBy l) (now (t .exit)) r ⌝ }
+    ensures { λ r. ⌜ (Offsets (now (f .entry)) (layoutBy l) (now (t .exit)) r) × (Kept (least 32768 (l .k)) (now (t .entry)) (now (t .exit))) ⌝ }
 {
     let o = reading::edition_in(l.edition, l.order);
     let types = cell_runs::add_capped(cell_runs::place_of(l, 2), reading::tag_size(o.e.tagged, 16));

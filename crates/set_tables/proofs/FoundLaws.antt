@@ -3,6 +3,7 @@ use mathlib.Core.Path.{_≡_, refl, sym, ap, _∙_}
 use Prim.Native.Nat.{ℕ, _+_, _≤_, _<_}
 use native.Mathlib.Omega.{arith}
 use mathlib.Core.List.{List, []}
+use mathlib.Core.Logic.{_⊎_, inl}
 use mathlib.Core.Bool.{Bool, true, false, false≢true}
 use lib.ListN.{length, getD}
 use lib.Dec.{eqb}
@@ -23,7 +24,7 @@ use Rattle.walks.proofs.BlockLaws.{starts, come-plain}
 use Rattle.walks.proofs.TextLaws.{TextGot, text-none, text-got}
 use Rattle.label_words.proofs.WordLaws.{set-none, set-empty, set-walk, set-open}
 use Rattle.set_names.specs.Names.{nameOf, nameAt, inOrder}
-use Rattle.set_tables.specs.Tables.{tableOf, numberOf, Alike, Started, Passed, canFind, Found}
+use Rattle.set_tables.specs.Tables.{tableOf, numberOf, Alike, Started, Passed, canFind, Found, Bare}
 use Rattle.set_tables.proofs.SameLaws.{slice-long}
 
 -- the width of names in an edition, read or not
@@ -147,6 +148,7 @@ module _ (f : List ℕ) (l : Layout) (q : Opened) (Q : q ≡ openedBy (editionIn
               let p = startOf (q .e .tagged) l 11 n-value-labels in
               ap (tableOf 0) e ∙ ap lenless (come-plain (q .e .tagged) (q .e .«name_width») (orderBy (q .msf)) f s z p p (starts (q .e .tagged) (q .e .«name_width») (orderBy (q .msf)) f s z p) h (noSet 0) refl));
           others = λ k i e. refl;
+          number = inl refl;
         })
 
 -- ---- whether they can be found at once
@@ -165,3 +167,11 @@ module _ (f : List ℕ) (l : Layout) (v : List ℕ) where
 -- .. where the variables are not in order
 pub found-none : (f : List ℕ) (l : Layout) (v t : List ℕ) → Found f l v t (record { there = false; code = 0 })
 found-none f l v t = record { each = λ h. absurd (false≢true h) }
+
+-- ---- its number, and the table where nothing is found
+
+pub bare-none : (t : List ℕ) → Bare t t (record { there = false; code = 0 })
+bare-none t = record { number = inl refl; untouched = λ h. (refl, refl) }
+
+pub bare-some : (t u : List ℕ) (r : ℕ) → (r ≡ 0) ⊎ (r ≡ 17) → Bare t u (record { there = true; code = r })
+bare-some t u r n = record { number = n; untouched = λ h. absurd (false≢true (sym h)) }

@@ -3,6 +3,7 @@ use mathlib.Core.Path.{_≡_, refl, sym, ap, _∙_}
 use Prim.Native.Nat.{ℕ, suc, _+_, _*_, _≤_, _<_}
 use native.Mathlib.Omega.{arith}
 use mathlib.Core.List.{List}
+use mathlib.Core.Logic.{_⊎_, inl, inr}
 use mathlib.Core.Bool.{Bool, true, false, false≢true}
 use lib.ListN.{length, getD, take, drop}
 use lib.Dec.{eqb, leb}
@@ -53,19 +54,19 @@ module _ (g : Bool) (w : ℕ) (o : Order) (f : List ℕ) (l : Layout) (v : List 
 
   module _ (p : ℕ) (u : List ℕ) (G : Going g w o f l v z start t p u) where
     -- what is answered, where those not found answer r
-    answers : (r : ℕ) → ((s : List ℕ) → Come g w o f s z start p → noSet r ≡ setBy (blockLabels g w o f s z start)) → Passed g w o f l v z start t u r
-    answers r h = record { found = λ k i e. go k (G .each k i e); others = G .others }
+    answers : (r : ℕ) → (r ≡ 0) ⊎ (r ≡ 17) → ((s : List ℕ) → Come g w o f s z start p → noSet r ≡ setBy (blockLabels g w o f s z start)) → Passed g w o f l v z start t u r
+    answers r n h = record { found = λ k i e. go k (G .each k i e); others = G .others; number = n }
       where
         go : (k : ℕ) → Sought g w o f (nameAt f l v k) z start p (getD u k 0) → tableOf r (getD u k 0) ≡ lenless (setBy (blockLabels g w o f (nameAt f l v k) z start))
         go k (still e C) = ap (tableOf r) e ∙ ap lenless (h (nameAt f l v k) C)
         go k (seen a e q) = ap (tableOf r) e ∙ q
 
     pub going-ends : z ≤ p → Passed g w o f l v z start t u 0
-    going-ends h = answers 0 (λ s C. come-plain g w o f s z start p C h (noSet 0) refl)
+    going-ends h = answers 0 (inl refl) (λ s C. come-plain g w o f s z start p C h (noSet 0) refl)
 
     module _ (h : p < z) where
       pub going-gone : blockIn g w o f z p ≡ none → Passed g w o f l v z start t u 17
-      going-gone b = answers 17 (λ s C. come-gone g w o f s z start p C h b (noSet 17) refl)
+      going-gone b = answers 17 (inr refl) (λ s C. come-gone g w o f s z start p C h b (noSet 17) refl)
 
       module _ (n m : ℕ) (b : BlockGot g w o f z p n m) (s : List ℕ) (S : s ≡ textAt w f (Walk.nameAt g p)) (x : ℕ) (X : x ≡ suc (suc (suc (suc (tableAt g w p)))))
           (y : List ℕ) (M : Marks f l v s x u y) where

@@ -2,6 +2,7 @@
 use mathlib.Core.Path.{_≡_}
 use Prim.Native.Nat.{ℕ, zero, suc, _+_, _≤_, _<_}
 use mathlib.Core.List.{List}
+use mathlib.Core.Logic.{_⊎_}
 use mathlib.Core.Bool.{Bool, true, false, cond, _&&_}
 use lib.ListN.{length, getD}
 use lib.Dec.{eqb, leb, ltb}
@@ -47,6 +48,7 @@ pub record Alike (f : List ℕ) (l : Layout) (v t : List ℕ) : Type 0 where
 pub record Passed (g : Bool) (w : ℕ) (o : Order) (f : List ℕ) (l : Layout) (v : List ℕ) (z p : ℕ) (t u : List ℕ) (r : ℕ) : Type 0 where
   pub found : (k : ℕ) → k < length v → getD t k 0 ≡ 0 → tableOf r (getD u k 0) ≡ lenless (setBy (blockLabels g w o f (nameAt f l v k) z p))
   pub others : (k : ℕ) → k < length v → (getD t k 0 ≡ 0 → ⊥) → getD u k 0 ≡ getD t k 0
+  pub number : (r ≡ 0) ⊎ (r ≡ 17)
 
 -- the number of a variable whose label-set name is the part p, before a block is looked at
 abbrev pub numberOf : Part → ℕ
@@ -64,3 +66,8 @@ canFind f l v = leb (length v) 32768 && inOrder f l v
 -- where r says that they are found, t has the label table of each variable of the list v
 pub record Found (f : List ℕ) (l : Layout) (v t : List ℕ) (r : Tables) : Type 0 where
   pub each : r .there ≡ true → (k : ℕ) → k < length v → tableOf (r .code) (getD t k 0) ≡ lenless (setBy (answerOf f l (askTable (getD v k 0))))
+
+-- the answer r has no number but 0 and 17; where nothing is found it is 0, and the table u is as it came, t
+pub record Bare (t u : List ℕ) (r : Tables) : Type 0 where
+  pub number : (r .code ≡ 0) ⊎ (r .code ≡ 17)
+  pub untouched : r .there ≡ false → (r .code ≡ 0) × (u ≡ t)

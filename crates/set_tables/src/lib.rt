@@ -11,7 +11,7 @@ ghost use lib.ListN.{length};
 ghost use Rattle.questions.specs.Ask.{slice};
 ghost use Rattle.checking.specs.Checks.{layoutBy};
 ghost use Rattle.set_names.specs.Names.{inOrder};
-ghost use Rattle.set_tables.specs.Tables.{tableOf, isNext, Marks, Alike, Passed, numberOf, Started, canFind, Found};
+ghost use Rattle.set_tables.specs.Tables.{tableOf, isNext, Marks, Alike, Passed, numberOf, Started, canFind, Found, Bare};
 
 // Whether the tables were found; and what a variable answers for whose name there is no block: 0, or 17 where a block on the way is not whole.
 pub struct Tables {
@@ -132,7 +132,7 @@ fn start_numbers(t: &mut [u64; 32768], f: &[u8], l: Layout, v: &[u64])
 // most 32,768.
 pub fn find_tables(t: &mut [u64; 32768], f: &[u8], l: Layout, v: &[u64]) -> Tables
     requires { ⌜ length (now t) ≡ 32768 ⌝ }
-    ensures { λ r. ⌜ (r .there ≡ canFind (now (f .entry)) (layoutBy l) (now (v .entry))) × (Found (now (f .entry)) (layoutBy l) (now (v .entry)) (now (t .exit)) r) ⌝ }
+    ensures { λ r. ⌜ (r .there ≡ canFind (now (f .entry)) (layoutBy l) (now (v .entry))) × (Found (now (f .entry)) (layoutBy l) (now (v .entry)) (now (t .exit)) r) × (Bare (now (t .entry)) (now (t .exit)) r) ⌝ }
 {
     if 32768 < v.len() {
         return Tables {

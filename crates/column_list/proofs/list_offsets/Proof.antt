@@ -14,7 +14,7 @@ use Rattle.column_list.proofs.list_offsets.Statement.{statement}
 use Rattle.column_list.proofs.list_offsets.Tie as tie
 
 abbrev Inv-loop : tie.InvT-loop
-Inv-loop t₀ f l o types first n c₀ m₀ t c m = Listed f (layoutBy l) first n t m c
+Inv-loop t₀ f l o types first n c₀ m₀ t c m = Listed f (layoutBy l) first n t₀ t m c
 
 abbrev μ-loop : tie.MeasureT-loop
 μ-loop t₀ f l o types first n c₀ m₀ t c m = n - m

@@ -1,6 +1,7 @@
 use mathlib.Core.Path.{_≡_, refl, sym, _∙_}
 use Prim.Native.Nat.{_+_}
 use native.Mathlib.Omega.{arith}
+use mathlib.Core.Logic.{inl}
 use mathlib.Core.Bool.{true}
 use lib.ListN.{getD}
 use borrow.Author.Tests.{not-true, not-false}
@@ -9,7 +10,7 @@ use Rattle.questions.specs.Ask.{endOf}
 use Rattle.checking.specs.Checks.{layoutBy}
 use Rattle.set_tables.specs.Tables.{canFind}
 use Rattle.reading.proofs.PlaceLaws.{start-is, end-is, part-more}
-use Rattle.set_tables.proofs.FoundLaws.{name-width, started-alike, found-passed, found-over, find-many, find-unordered, find-ordered, found-none}
+use Rattle.set_tables.proofs.FoundLaws.{name-width, started-alike, found-passed, found-over, find-many, find-unordered, find-ordered, found-none, bare-none, bare-some}
 use borrow.Author.Needs.{needs}
 use Rattle.set_tables.proofs.find_tables.Statement.{statement}
 use Rattle.set_tables.proofs.find_tables.Tie as tie
@@ -28,7 +29,7 @@ in-order-here c =
 returns : tie.Need-returns
 returns c =
     let a = c .before .before .before .args in
-    (find-many (a .f .now) (layoutBy (a .t3)) (a .v .now) (c .if1 .taken), found-none (a .f .now) (layoutBy (a .t3)) (a .v .now) (a .t .now))
+    (find-many (a .f .now) (layoutBy (a .t3)) (a .v .now) (c .if1 .taken), found-none (a .f .now) (layoutBy (a .t3)) (a .v .now) (a .t .now), bare-none (a .t .now))
 
 in-order-requires : tie.Need-in-order-requires
 in-order-requires c κs = search needs
@@ -39,6 +40,7 @@ returns-2 c =
     let s = c .before .in-order in (
       find-unordered (a .f .now) (layoutBy (a .t3)) (a .v .now) (c .before .before .if1 .left) (sym (s .ensures) ∙ not-true (s .result) (c .if2 .taken)),
       found-none (a .f .now) (layoutBy (a .t3)) (a .v .now) (a .t .now),
+      bare-none (a .t .now),
     )
 
 start-numbers-requires : tie.Need-start-numbers-requires
@@ -64,7 +66,7 @@ returns-3 c =
     let a = c .before .before .before .before .before .before .before .before .before .before .before .before .before .args in
     let o = c .before .before .before .before .before .edition-in in
     let n = c .before .before .before .before .before .before .start-numbers in
-    (in-order-here (c .before .before .before .before .before .before .before .before), found-over (a .f .now) (layoutBy (a .t3)) (o .result) (o .ensures) (a .v .now) (n .last .0) (n .ensures) (c .before .before .less .result) (ended (c .before .before)) (omega (arith, c .if3 .taken)))
+    (in-order-here (c .before .before .before .before .before .before .before .before), found-over (a .f .now) (layoutBy (a .t3)) (o .result) (o .ensures) (a .v .now) (n .last .0) (n .ensures) (c .before .before .less .result) (ended (c .before .before)) (omega (arith, c .if3 .taken)), bare-some _ _ 0 (inl refl))
 
 element-copy-out-start : tie.Need-element-copy-out-start
 element-copy-out-start c = search needs
@@ -99,6 +101,7 @@ returns-4 c =
       in-order-here (c .before .before .before .before .before .before .before .before .before .before .before .before),
       found-passed (a .f .now) (layoutBy (a .t3)) (o .result) (o .ensures) (a .v .now) (n .last .0) (n .ensures) (c .before .before .before .before .before .before .less .result) (s + c .before .before .tag-size2 .result) (ended (c .before .before .before .before .before .before))
           (start-is (o .result .e .tagged) n-value-labels 14 s (c .before .before .tag-size2 .result) refl (c .before .before .tag-size2 .ensures)) (c .pass .last .0) (c .pass .result) (c .pass .ensures),
+      bare-some _ _ (c .pass .result) (c .pass .ensures .number),
     )
 
 pub find-tables-spec : {M : Type 1} → statement M

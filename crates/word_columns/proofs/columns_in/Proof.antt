@@ -47,7 +47,7 @@ shared-slice-read-i : tie.Need-shared-slice-read-i Inv-loop μ-loop
 shared-slice-read-i c = search needs
 
 column-at-requires : tie.Need-column-at-requires Inv-loop μ-loop
-column-at-requires c κs = c .before .before .before .before .before .before .before .before .list-offsets .ensures
+column-at-requires c κs = c .before .before .before .before .before .before .before .before .list-offsets .ensures .0
 
 set-at-requires : tie.Need-set-at-requires Inv-loop μ-loop
 set-at-requires c κs = (c .before .before .before .before .before .before .before .before .find-tables .ensures .1, c .before .before .before .before .before .loop-test .taken, refl)
