@@ -199,7 +199,7 @@ table-1 =
     (c-empty, refused 2)
     ∷ (c-one-byte-0, refused 2)
     ∷ (c-one-byte-114, refused 3)
-    ∷ (c-one-byte-115, refused 2)
+    ∷ (c-one-byte-115, refused 3)
     ∷ (c-one-byte-116, refused 2)
     ∷ (c-one-byte-118, refused 2)
     ∷ (c-one-byte-255, refused 2)

@@ -136,7 +136,7 @@ module _ {f : List ℕ} {l : Layout} {i : ℕ} {q : Opened} {c : Column} {p : �
       let L = types-long (E .tagged) O f (l .variables) p t types-are in
       let F : x ≡ fieldBy (getD t i byteType) = X ∙ types-at (E .tagged) O f (l .variables) p t types-are i (omega arith) in
       let A : c .offset ≡ capped (offsetIn E t i) = ap (λ (k : Column). k .offset) (S .column) in
-      let D : c .width ≡ w y = ap (λ (k : Column). k .width) (S .column) ∙ width-is (E .vWidth) (E .oWidth) (omega (arith, W .v, W .o)) y in
+      let D : c .width ≡ w y = ap (λ (k : Column). k .width) (S .column) ∙ width-is (E .vWidth) (E .oWidth) (omega (arith, W .eight)) y in
       let R : c .row ≡ capped (widthIn E t) = ap (λ (k : Column). k .row) (S .column) in
       let N : rowWidth w (take i t) ≡ offsetIn E t i + w y = ap (λ (m : ℕ). rowWidth w (take m t)) s ∙ width-next w t (i - 1) (omega arith) in
       let G : b ≡ capped (rowWidth w (take i t)) = B ∙ rw (A, D) (sym (capped-next (offsetIn E t i) (w y))) ∙ ap capped (sym N) in

@@ -101,7 +101,7 @@ module _ (f : List ℕ) (l : Layout) (i j : ℕ) (q : Opened) (Q : q ≡ openedB
           let K = kind-known c (S .type) (capped (S .off)) (capped (S .row)) (S .column) in
           let B : s + (j - 1) * c .row ≡ s + (j - 1) * capped (S .row) = ap (λ (y : ℕ). s + (j - 1) * y) (K .3) in
           ap refused (code-of (noRow 17) h)
-          ∙ cell-past e o f (e .tagged) (S .type) (s + (j - 1) * S .row + S .off) (omega (arith, W .v, W .o)) (S .has) (far s (j - 1) (S .row) (S .off) (length f) (omega (arith, B, t)))
+          ∙ cell-past e o f (e .tagged) (S .type) (s + (j - 1) * S .row + S .off) (omega (arith, W .eight)) (S .has) (far s (j - 1) (S .row) (S .off) (length f) (omega (arith, B, t)))
           ∙ sym (S .is)
       go (here J b t h) = absurd (z (ap (λ (y : Row). y .code) h))
 
@@ -123,7 +123,7 @@ module _ (f : List ℕ) (l : Layout) (i j : ℕ) (q : Opened) (Q : q ≡ openedB
           let S = stands f l i j q Q c C J b in
           let x = S .type in
           let W = edition-widths (l .release) (l .order) q Q (S .there) in
-          let eight : e .vWidth + e .oWidth ≡ 8 = omega (arith, W .v, W .o) in
+          let eight : e .vWidth + e .oWidth ≡ 8 = omega (arith, W .eight) in
           let K = kind-known c x (capped (S .off)) (capped (S .row)) (S .column) in
           let B : s + (j - 1) * c .row ≡ s + (j - 1) * capped (S .row) = ap (λ (y : ℕ). s + (j - 1) * y) (K .3) in
           let A : r .at ≡ s + (j - 1) * capped (S .row) = ap (λ (y : Row). y .at) h ∙ B in
@@ -133,8 +133,8 @@ module _ (f : List ℕ) (l : Layout) (i j : ℕ) (q : Opened) (Q : q ≡ openedB
             kind = record {
               kind = K .0;
               width = ap (λ (y : Column). y .width) (S .column) ∙ width-is (e .vWidth) (e .oWidth) eight x ∙ ap (cellWidth (e .vWidth) (e .oWidth)) (sym (K .1));
-              variable = omega (arith, W .v);
-              observation = omega (arith, W .o);
+              variable = omega (arith, W .eight);
+              observation = omega (arith, W .eight);
             };
             is = ap (λ (y : VarType). cellSaid e o f y (r .at + c .offset)) (K .1) ∙ ap (cellSaid e o f x) P ∙ capped-said e o f x (e .tagged) eight (S .has) s (j - 1) (S .row) (S .off) n ∙ sym (S .is);
           }

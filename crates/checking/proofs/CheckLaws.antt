@@ -9,14 +9,16 @@ use lib.Dec.{eqb, leb}
 use borrow.Author.Tests.{eq-eqb, ne-eqb, le-leb, lt-leb}
 use Rattle.format.specs.Number.{Order, msf, lsf, orderBy}
 use Rattle.format.specs.Grammar.{Sect, also, unless, next, done, ruled, told, sameAt}
-use Rattle.format.specs.Edition.{Edition, Release, r113, r114, r117, edition, start, orderMark}
+use Rattle.format.specs.Edition.{Edition, edition, releaseBy, start, orderMark}
 use Rattle.format.specs.Header.{header}
 use Rattle.format.specs.Variables.{fileMap}
 use Rattle.format.specs.Dta as Format
 use Rattle.format.specs.Dta.{Parts, gather, partSizes, positions, mapOf, mapRule, sameList, fromMap, sections, fileTo, file, known, releaseOf, editionOf, isMsf, orderOf, lengthMax, verdict, contents, layoutOf}
 use Rattle.editions.specs.declared.Edition as Code
-use Rattle.editions.specs.Editions.{numbersOf, releaseBy}
+use Rattle.editions.specs.Editions.{numbersOf}
+use Rattle.format.proofs.EditionLaws.{Widths}
 use Rattle.editions.proofs.StartLaws.{Known, number-known}
+use Rattle.editions.proofs.WidthLaws.{code-widths}
 use Rattle.section.proofs.SeqLaws.{also-first}
 use Rattle.header.specs.Heads.{Begun}
 use Rattle.lists.specs.Walks.{Narrow}
@@ -24,24 +26,6 @@ use Rattle.checking.specs.declared.Walk.{Walk}
 use Rattle.checking.specs.declared.Checked.{Checked}
 use Rattle.checking.specs.Walks.{Wide, WalkMet, Sectioned}
 use Rattle.checking.specs.Checks.{Checks, refusal}
-
--- ---- the numbers of the editions are small
-
--- as the format's definitions have them
-record Small (e : Edition) : Type 0 where
-  n-small : e .nWidth ≤ 8
-  length-small : e .labelLength ≤ 8
-  label-small : e .labelMax ≤ 65535
-  names : e .nameWidth ≤ 65535
-  formats : e .formatWidth ≤ 65535
-  labels : e .varLabelWidth ≤ 65535
-  eight : e .vWidth + e .oWidth ≡ 8
-  record-small : e .recordWidth ≤ 8
-
-edition-small : (r : Release) → Small (edition r)
-edition-small r113 = record { n-small = omega arith; length-small = omega arith; label-small = omega arith; names = omega arith; formats = omega arith; labels = omega arith; eight = refl; record-small = omega arith }
-edition-small r114 = record { n-small = omega arith; length-small = omega arith; label-small = omega arith; names = omega arith; formats = omega arith; labels = omega arith; eight = refl; record-small = omega arith }
-edition-small r117 = record { n-small = omega arith; length-small = omega arith; label-small = omega arith; names = omega arith; formats = omega arith; labels = omega arith; eight = refl; record-small = omega arith }
 
 module _ (f : List ℕ) where
   -- ---- refusals
@@ -81,24 +65,24 @@ module _ (f : List ℕ) where
         pub numbers : numbersOf e ≡ E
         numbers = same ∙ ap edition (k .release)
 
-        small : Small (numbersOf e)
-        small = subst Small (sym numbers) (edition-small (releaseOf f))
+        small : Widths (numbersOf e)
+        small = code-widths e (releaseBy n) same
 
         pub begun : Begun f e
         begun =
             record {
-              n-small = small .n-small;
-              length-small = small .length-small;
-              label-small = small .label-small;
+              n-small = small .n-most;
+              length-small = omega (arith, small .length-most);
+              label-small = omega (arith, small .label-most);
               starts = subst (λ (x : Edition). sameAt (start x) f 0 ≡ true) (sym numbers) (k .starts);
               room = subst (λ (x : Edition). length (start x) ≤ length f) (sym numbers) (k .room);
             }
 
         pub narrow : Narrow e
-        narrow = record { names = small .names; formats = small .formats; labels = small .labels }
+        narrow = record { names = omega (arith, small .name-most); formats = omega (arith, small .format-most); labels = omega (arith, small .var-label-most) }
 
         pub wide : Wide e
-        wide = record { eight = small .eight; record-small = small .record-small }
+        wide = record { eight = small .eight; record-small = small .record-most }
 
         -- ---- its sections, in its byte order
 

@@ -28,7 +28,7 @@ use Rattle.demands.proofs.ReasonLaws.{reason}
 five : Own 5
 five = own 5 (omega arith)
 
--- ---- 113 and 114
+-- ---- 113, 114 and 115
 
 -- rules one after another
 rules : (a b : Bool) → also (unless a 5) (unless b 5) ≡ unless (a && b) 5
@@ -122,7 +122,7 @@ module _ (l r : List ℕ) (o : Order) (w : ℕ) (rule : ℕ → Bool) (f : List 
       of-between l r (counted o w rule) f p 5 five (tag-met l 4 f p (x .opened .tag) (omega (arith, x .opened .room)))
       (of-counted o w rule f (p + length l) (x .opened .room) (x .broken))
 
--- ---- 117
+-- ---- 117 and 118
 
 module _ (e : Edition) (o : Order) (f : List ℕ) where
   abbrev stampPart : Sect (List ℕ)

@@ -7,7 +7,7 @@ use lib.ListN.{length, getD}
 use lib.Dec.{eqb, leb, ltb}
 use Rattle.format.specs.Number.{Order, msf}
 use Rattle.format.specs.Grammar.{Sect, also, unless, need, next, lit, idle, number, text, fixed, raw, within, ruled, seq, told, coded, tag, between, judgeTimes, times, judgeWalk, walk, judgeRow, row, ended, area, done, sameAt, noZero, textAt, endedAt, allBelow, pastZero}
-use Rattle.format.specs.Edition.{Edition, r113, r114, r117, codeWidth, kindWidth, mapCount, blocksEnd, opening, closing, taggedStart, startBy, start, orderMark, orderText, n-byteorder, n-K, n-N, n-label, n-timestamp, n-header, n-ch, n-characteristics, n-strls, n-lbl, n-value-labels, n-stata-dta, t-GSO}
+use Rattle.format.specs.Edition.{Edition, codeWidth, kindWidth, mapCount, blocksEnd, opening, closing, taggedStart, startBy, start, orderMark, orderText, n-byteorder, n-K, n-N, n-label, n-timestamp, n-header, n-ch, n-characteristics, n-strls, n-lbl, n-value-labels, n-stata-dta, t-GSO}
 use Rattle.format.specs.Header.{kRule, nRule, stampLength, oldStamp, oldHeader, counted, newFacts, newHeader, headerBy, header}
 use Rattle.format.specs.Variables.{fileMap, VarType, textType, strLType, byteType, intType, longType, floatType, doubleType, typeBy, codeOf, hasType, typeCode, types, nonempty, name, names, fresh, sortList, fields}
 use Rattle.format.specs.Expansion.{expansionNext, expansionHead, expansionBody, expansion, expansions}
@@ -15,6 +15,7 @@ use Rattle.format.specs.Data.{Cell, cell, observations, linked, longNext, longH
 use Rattle.format.specs.Labels.{ascending, tableSizes, tableHead, tableBody, tableBy, tableOf, table, blockHead, blockBy, blockOf, block, blockNext, blocks}
 use Rattle.format.specs.Dta.{mapRule, fromStrls, fromData, fromExpansions, fromVarLabels, fromSetNames, fromFormats, fromSortList, fromNames, fromTypes, fromMap, sections, fileTo, file, begins, known, releaseOf, editionOf, orderOf}
 use Rattle.format.proofs.Good.{and-left}
+use Rattle.format.proofs.EditionLaws.{found}
 
 -- some numbers, 0 and those of every part among them: 3 and 4
 pub record Numbers : Type 0 where
@@ -374,15 +375,7 @@ module _ (P : Numbers) where
 
 -- a known file begins as its edition does
 pub known-begins : (f : List ℕ) → known f ≡ true → begins (releaseOf f) f ≡ true
-known-begins f h = go (begins r113 f) refl
-  where
-    one : (t : Bool) → begins r114 f ≡ t → (t || begins r117 f) ≡ true → begins (cond t r114 r117) f ≡ true
-    one true e k = e
-    one false e k = k
-
-    go : (t : Bool) → begins r113 f ≡ t → begins (releaseOf f) f ≡ true
-    go true e = rw e e
-    go false e = rw e (one (begins r114 f) refl (rw e at h))
+known-begins f h = found (λ r. begins r f) h
 
 -- 0, or one of the numbers that a section gives
 abbrev pub listed : ℕ → Bool

@@ -10,10 +10,10 @@ use lib.Dec.{eqb, leb}
 use borrow.Author.Tests.{eqb-true, eq-eqb, ne-eqb, leb-true, leb-false, le-leb, lt-leb}
 use Rattle.format.specs.Number.{Order, msf, lsf, orderBy}
 use Rattle.format.specs.Grammar.{also, unless}
-use Rattle.format.specs.Edition.{Release, r113, r114, r117, edition, orderMark}
+use Rattle.format.specs.Edition.{Release, edition, isRelease, releaseBy, orderMark}
 use Rattle.format.specs.Dta.{Dataset, verdict, datasetOf, written, holds}
 use Rattle.format.proofs.Good.{and-left, and-right}
-use Rattle.editions.specs.Editions.{releaseBy}
+use Rattle.format.proofs.EditionLaws.{number-is, number-read}
 use Rattle.rewriting.specs.declared.Rewritten.{Rewritten}
 use Rattle.rewriting.specs.Rewriting.{offered, editionTo, orderTo, held, rewritten, rewriteCode, outputOf, lengthOf, Rewrites}
 use Rattle.demands.specs.Demands.{RewriteGiven}
@@ -107,27 +107,21 @@ module _ (f : List ℕ) (e o : ℕ) (d w : List ℕ) (r : Rewritten) (R : Rewrit
 -- ---- a target that is offered
 
 pub offered-edition : (e o : ℕ) → offered e o ≡ true → edition (releaseBy e) .number ≡ e
-offered-edition e o h = go (eqb e 113) refl (eqb e 114) refl (and-left (eqb e 113 || (eqb e 114 || eqb e 117)) (eqb o 1 || eqb o 2) h)
-  where
-    go : (a : Bool) → eqb e 113 ≡ a → (b : Bool) → eqb e 114 ≡ b → (a || (b || eqb e 117)) ≡ true → edition (cond a r113 (cond b r114 r117)) .number ≡ e
-    go true p b q k = sym (eqb-true e 113 p)
-    go false p true q k = sym (eqb-true e 114 q)
-    go false p false q k = sym (eqb-true e 117 k)
+offered-edition e o h = sym (number-is e (and-left (isRelease e) (eqb o 1 || eqb o 2) h))
 
 pub offered-order : (e o : ℕ) → offered e o ≡ true → orderMark (orderTo o) ≡ o
-offered-order e o h = go (eqb o 1) refl (and-right (eqb e 113 || (eqb e 114 || eqb e 117)) (eqb o 1 || eqb o 2) h)
+offered-order e o h = go (eqb o 1) refl (and-right (isRelease e) (eqb o 1 || eqb o 2) h)
   where
     go : (a : Bool) → eqb o 1 ≡ a → (a || eqb o 2) ≡ true → orderMark (orderBy a) ≡ o
     go true p k = sym (eqb-true o 1 p)
     go false p k = sym (eqb-true o 2 k)
 
 pub all-offered : (r : Release) (o : Order) → offered (edition r .number) (orderMark o) ≡ true
-all-offered r113 msf = refl
-all-offered r113 lsf = refl
-all-offered r114 msf = refl
-all-offered r114 lsf = refl
-all-offered r117 msf = refl
-all-offered r117 lsf = refl
+all-offered r o = ap (λ (b : Bool). b && (eqb (orderMark o) 1 || eqb (orderMark o) 2)) (number-read r) ∙ orders o
+  where
+    orders : (o : Order) → (eqb (orderMark o) 1 || eqb (orderMark o) 2) ≡ true
+    orders msf = refl
+    orders lsf = refl
 
 -- ---- files of one verdict and one dataset
 

@@ -6,12 +6,11 @@ use mathlib.Core.Bool.{true, false, _&&_, true≢false}
 use lib.ListN.{length, getD, take, drop}
 use lib.Dec.{leb}
 use Rattle.format.specs.Number.{Order}
-use Rattle.format.specs.Edition.{Release, edition, orderMark}
-use Rattle.format.specs.Dta.{Dataset, Extras, Layout, verdict, releaseOf, editionOf, orderOf, contents, datasetOf, lengthMax, deadIn, written, holds, allTypes, allShorter}
+use Rattle.format.specs.Edition.{Release, edition, releaseBy, AsWide, orderMark}
+use Rattle.format.specs.Dta.{Dataset, Extras, Layout, verdict, releaseOf, editionOf, orderOf, contents, datasetOf, lengthMax, deadIn, written, holds, allTypes, allShorter, blockNames}
 use Rattle.format.proofs.Theorems.{sound, complete, round-trip, SameButDead, dead-bytes, dead-places}
 use Rattle.format.proofs.FileLaws.{itself, layout-is, written-length}
-use Rattle.format.proofs.HoldsLaws.{holds-if}
-use Rattle.editions.specs.Editions.{releaseBy}
+use Rattle.format.proofs.HoldsLaws.{holds-wide}
 use Rattle.checking.specs.declared.Checked.{Checked}
 use Rattle.checking.specs.Checks.{Checks, layoutBy}
 use Rattle.questions.specs.Ask.{Question, askLong, askWords, Answer, refused, shown, inRange, answerOf}
@@ -79,12 +78,20 @@ module _ (f : List ℕ) (c : Checked) (A : Accepted f c) where
       subst (λ (t : List ℕ). WordsGiven (datasetOf f) i j lent t) (sym (bytes (askWords i j lent) ∙ rw there refl))
       (words-given (datasetOf f) i j lent (label-found f (A .is-file) ok _))
 
-  can-hold : (r : Release) (o : Order) → holds (edition r) o (datasetOf f)
-      ≡ (allTypes (edition r .tagged) (datasetOf f .varTypes) && (allShorter (edition r .formatWidth) (datasetOf f .displayFormats) && leb (length (written (edition r) o (datasetOf f))) lengthMax))
-  can-hold r o =
-      holds-if f (A .is-file) ok o r
-      ∙ ap (λ (n : ℕ). allTypes (edition r .tagged) (datasetOf f .varTypes) && (allShorter (edition r .formatWidth) (datasetOf f .displayFormats) && leb n lengthMax))
-      (sym (written-length r o (datasetOf f)))
+  can-hold : (r : Release) (o : Order) → let d = datasetOf f in let e = edition r in holds e o d
+      ≡ (allTypes (e .tagged) (d .varTypes)
+      && (leb (length (d .label)) (e .labelMax)
+      && (allShorter (e .nameWidth) (d .varNames)
+      && (allShorter (e .formatWidth) (d .displayFormats)
+      && (allShorter (e .nameWidth) (d .labelSets)
+      && (allShorter (e .varLabelWidth) (d .variableLabels)
+      && (allShorter (e .nameWidth) (blockNames (d .labelBlocks)) && leb (length (written e o d)) lengthMax)))))))
+  unfolding holds
+  can-hold r o = rw (written-length r o (datasetOf f))
+
+  as-wide : (r : Release) (o : Order) → AsWide (editionOf f) (edition r) → holds (edition r) o (datasetOf f)
+      ≡ (allTypes (edition r .tagged) (datasetOf f .varTypes) && leb (length (written (edition r) o (datasetOf f))) lengthMax)
+  as-wide r o w = holds-wide f (A .is-file) ok o r w ∙ ap (λ (n : ℕ). allTypes (edition r .tagged) (datasetOf f .varTypes) && leb n lengthMax) (sym (written-length r o (datasetOf f)))
 
   facts-told : (q : ℕ → Question) (n : ℕ) → told f (layoutBy (c .layout)) q n ≡ factsTo f q n
   unfolding told
@@ -127,6 +134,7 @@ demand-2 =
       listed = λ f c A. lists-given f (A .is-file) (ok f c A);
       offers = all-offered;
       can-hold = can-hold;
+      as-wide = as-wide;
       back = back;
     }
 

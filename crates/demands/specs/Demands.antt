@@ -1,4 +1,4 @@
--- The owner's three demands, for editions 113, 114 and 117.
+-- The owner's three demands, for editions 113, 114, 115, 117 and 118.
 --
 -- A file is any list of bytes. `Checks f r` is what `check` promises: r is its answer for the file f. `Rewrites f e o d w r` is what
 -- `rewrite` promises: r is its answer for the file f, the edition e and the byte order o, with an output that held d and then holds w.
@@ -19,13 +19,13 @@ use lib.Dec.{leb}
 use lib.IntN.{ℤ}
 use Rattle.format.specs.Slot.{Fits, Bytes}
 use Rattle.format.specs.Number.{Order}
-use Rattle.format.specs.Edition.{Release, edition, orderMark}
+use Rattle.format.specs.Edition.{Release, edition, AsWide, orderMark}
 use Rattle.format.specs.Data.{LongString}
 use Rattle.format.specs.Labels.{Table, LabelBlock}
 use Rattle.format.specs.Variables.{nonempty}
 use Rattle.format.specs.Cells.{signedBy, seeks, keyOf}
 use Rattle.format.specs.Search.{found}
-use Rattle.format.specs.Dta.{Dataset, Extras, Layout, file, known, verdict, releaseOf, editionOf, orderOf, contents, datasetOf, noLayout, lengthMax, written, holds, allTypes, allShorter}
+use Rattle.format.specs.Dta.{Dataset, Extras, Layout, file, known, verdict, releaseOf, editionOf, orderOf, contents, datasetOf, noLayout, lengthMax, written, holds, allTypes, allShorter, blockNames}
 use Rattle.format.specs.Dead.{DeadPlace}
 use Rattle.checking.specs.declared.Checked.{Checked}
 use Rattle.checking.specs.Checks.{Checks, layoutBy}
@@ -296,10 +296,19 @@ pub record Demand2 : Type 1 where
   pub listed : (f : List ℕ) (c : Checked) → Accepted f c → ListsGiven f
   -- each edition that is read is offered, in either byte order
   pub offers : (r : Release) (o : Order) → offered (edition r .number) (orderMark o) ≡ true
-  -- what an edition can hold of a dataset that was read: the types that it has (no strL and no text wider than 244 in 113 and 114), display
-  -- formats shorter than its field (12 bytes in 113), a result within the length bound
-  pub can-hold : (f : List ℕ) (c : Checked) → Accepted f c → (r : Release) (o : Order) → let d = datasetOf f in holds (edition r) o d
-      ≡ (allTypes (edition r .tagged) (d .varTypes) && (allShorter (edition r .formatWidth) (d .displayFormats) && leb (length (written (edition r) o d)) lengthMax))
+  -- what an edition can hold of a dataset that was read: the types that it has (no strL and no text wider than 244 in 113, 114 and 115), a
+  -- dataset label and texts that its fields have room for, a result within the length bound
+  pub can-hold : (f : List ℕ) (c : Checked) → Accepted f c → (r : Release) (o : Order) → let d = datasetOf f in let e = edition r in holds e o d
+      ≡ (allTypes (e .tagged) (d .varTypes)
+      && (leb (length (d .label)) (e .labelMax)
+      && (allShorter (e .nameWidth) (d .varNames)
+      && (allShorter (e .formatWidth) (d .displayFormats)
+      && (allShorter (e .nameWidth) (d .labelSets)
+      && (allShorter (e .varLabelWidth) (d .variableLabels)
+      && (allShorter (e .nameWidth) (blockNames (d .labelBlocks)) && leb (length (written e o d)) lengthMax)))))))
+  -- .. of which only types and length can be lacking where its fields are as wide as those of the file's own edition
+  pub as-wide : (f : List ℕ) (c : Checked) → Accepted f c → (r : Release) (o : Order) → AsWide (editionOf f) (edition r) → let d = datasetOf f in holds (edition r) o d
+      ≡ (allTypes (edition r .tagged) (d .varTypes) && leb (length (written (edition r) o d)) lengthMax)
   -- rewritten where it can be held and there is room, it is accepted and reads back
   pub back : (f : List ℕ) (c : Checked) → Accepted f c → (e o : ℕ) → offered e o ≡ true → holds (editionTo e) (orderTo o) (datasetOf f) ≡ true
       → (d w : List ℕ) (r : Rewritten) → Rewrites f e o d w r → length (rewritten f e o) ≤ length d

@@ -21,7 +21,7 @@ pub record CountedBroken (l : List ℕ) (o : Order) (w : ℕ) (rule : ℕ → Bo
       (rule n ≡ false) ⊎ ((q + w + n ≤ length f) × ((i : ℕ) × (i < n) × (getD f (q + w + i) 0 ≡ 0)))
 
 module _ (e : Edition) (o : Order) (f : List ℕ) where
-  -- ---- 113 and 114
+  -- ---- 113, 114 and 115
 
   -- the header's rules: byte order, file type 1, K, N, a label with a zero, a stamp that is empty or 17 bytes, and a zero. (o is LSF where the byte
   -- is not MSF's, so the first rule is broken by all bytes but these two)
@@ -36,7 +36,7 @@ module _ (e : Edition) (o : Order) (f : List ℕ) where
       && (ltb (length (textAt (suc (e .labelMax)) f label)) (suc (e .labelMax))
       && (stampLength (length (textAt 17 f stamp)) && eqb (getD f (stamp + 17) 0) 0)))))
 
-  -- ---- 117: the parts of the header, each between its tags, where they start, and those before them
+  -- ---- 117 and 118: the parts of the header, each between its tags, where they start, and those before them
 
   abbrev pub orderPart : Sect (Unit {0})
   orderPart = between (opening true n-byteorder) (closing true n-byteorder) (tag (orderText o) 5)
@@ -83,9 +83,9 @@ module _ (e : Edition) (o : Order) (f : List ℕ) where
   -- ---- 5
 
   pub data HeaderBroken : Type 0 where
-    -- 113 and 114: all bytes of the header are there, 109
+    -- 113, 114 and 115: all bytes of the header are there, 109
     inOld : BeforeHeader e o f → e .tagged ≡ false → 6 + (e .nWidth + (suc (e .labelMax) + 18)) ≤ length f → oldRules ≡ false → HeaderBroken
-    -- 117: neither MSF nor LSF (o is LSF where it is not MSF)
+    -- 117 and 118: neither MSF nor LSF (o is LSF where it is not MSF)
     inOrder : BeforeOrder → Opened (opening true n-byteorder) (length (orderText o)) f orderAt → sameAt (orderText o) f (orderAt + length (opening true n-byteorder)) ≡ false → HeaderBroken
     inK : BeforeK → Opened (opening true n-K) 2 f kAt → kRule (num o 2 f (kAt + length (opening true n-K))) ≡ false → HeaderBroken
     inN : BeforeN → Opened (opening true n-N) (e .nWidth) f nAt

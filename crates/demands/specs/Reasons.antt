@@ -93,7 +93,7 @@ module _ (e : Edition) (o : Order) (f : List ℕ) where
 
   -- ---- 9: expansion type 0 with a length
 
-  -- in 113 and 114: after blocks that are right, five bytes are there, type 0 and a length that is not 0
+  -- in 113, 114 and 115: after blocks that are right, five bytes are there, type 0 and a length that is not 0
   pub record LengthOfNone : Type 0 where
     pub before : BeforeExpansions e o f
     pub untagged : e .tagged ≡ false
@@ -143,12 +143,12 @@ module _ (e : Edition) (o : Order) (f : List ℕ) where
     inFormats : BeforeFormats e o f → FieldBroken Unended (opening (e .tagged) n-formats) (e .formatWidth) (kIn e o f) f (formatsAt e o f) → TextBroken
     inSetNames : BeforeSetNames e o f → FieldBroken Unended (opening (e .tagged) n-value-label-names) (e .nameWidth) (kIn e o f) f (setNamesAt e o f) → TextBroken
     inVarLabels : BeforeVarLabels e o f → FieldBroken Unended (opening (e .tagged) n-variable-labels) (e .varLabelWidth) (kIn e o f) f (varLabelsAt e o f) → TextBroken
-    -- the name of the first label block that is not right, whose first 40 bytes are there
+    -- the name of the first label block that is not right, whose bytes before its table are there
     inBlock : (p : ℕ) → BlocksTo p → blockNext (e .tagged) f p ≡ true → Opened (opening (e .tagged) n-lbl) (4 + (e .nameWidth + 3)) f p → NoName (e .nameWidth) f (blockName p) → TextBroken
 
   -- ---- 12: label table breaks its rule
 
-  -- the first block that is not right has its first 40 bytes, a right name and all bytes of its table, which breaks its rule
+  -- the first block that is not right has all bytes before its table, a right name and all bytes of its table, which breaks its rule
   pub record TableBroken : Type 0 where
     pub at : ℕ
     pub reached : BlocksTo at
@@ -160,7 +160,7 @@ module _ (e : Edition) (o : Order) (f : List ℕ) where
 
   -- ---- all parts, and what comes last
 
-  -- all parts are right, </stata_dta> too; in 113 and 114 the tags have no bytes
+  -- all parts are right, </stata_dta> too; in 113, 114 and 115 the tags have no bytes
   pub record AllParts : Type 0 where
     -- where the label blocks end: no other is next
     pub at : ℕ
@@ -194,7 +194,7 @@ module _ (e : Edition) (o : Order) (f : List ℕ) where
   abbrev pub mapSays : ℕ → ℕ
   mapSays i = num o 8 f (mapAt e o f + length (opening (e .tagged) n-map) + i * 8)
 
-  -- the file ends with its parts, and one of its positions differs; 113 and 114 have none
+  -- the file ends with its parts, and one of its positions differs; 113, 114 and 115 have none
   pub record MapWrong : Type 0 where
     pub parts : AllParts
     pub whole : pastEnd parts ≡ length f

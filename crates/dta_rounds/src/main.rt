@@ -82,7 +82,9 @@ fn both_orders(file: &mut [u8], out: &mut [u8], n: u64, edition: u64) -> u64 {
 fn round(file: &mut [u8], out: &mut [u8], n: u64) -> u64 {
     let a = both_orders(file, out, n, 113);
     let b = both_orders(file, out, a, 114);
-    both_orders(file, out, b, 117)
+    let c = both_orders(file, out, b, 115);
+    let d = both_orders(file, out, c, 117);
+    both_orders(file, out, d, 118)
 }
 
 // The number of the file that is the first `m` bytes.

@@ -8,19 +8,12 @@ use lib.ListN.{length, getD, List·getD-eq-default}
 use lib.Dec.{eqb}
 use borrow.Author.Tests.{eqb-true, eq-eqb, ne-eqb}
 use Rattle.format.specs.Grammar.{noZero, sameAt, tag}
-use Rattle.format.specs.Edition.{Release, r113, r114, r117, edition, start, taggedStart}
+use Rattle.format.specs.Edition.{Release, r117, r118, edition, releaseBy, start}
 use Rattle.format.specs.Dta.{begins, known, releaseOf, editionOf, isMsf}
+use Rattle.format.proofs.EditionLaws.{Widths, widths, each, found, number-back}
+use Rattle.format.proofs.FileLaws.{begun}
 use Rattle.section.proofs.StepLaws.{tag-room}
 use Rattle.section.proofs.TagLaws.{tag-same}
-use Rattle.editions.specs.Editions.{releaseBy}
-
-abbrev tail : List ℕ → List ℕ
-tail [] = []
-tail (x ∷ l) = l
-
--- the edition's number, by what the file begins as
-abbrev pick : Bool → Bool → Bool → ℕ
-pick a b c = cond (a || (b || c)) (edition (cond a r113 (cond b r114 r117)) .number) 0
 
 -- what a file of edition number n is known to be
 pub record Known (f : List ℕ) (n : ℕ) : Type 0 where
@@ -30,37 +23,36 @@ pub record Known (f : List ℕ) (n : ℕ) : Type 0 where
   pub room : length (start (editionOf f)) ≤ length f
 
 module _ (f : List ℕ) where
-  picked : (a b c : Bool) → begins r113 f ≡ a → begins r114 f ≡ b → begins r117 f ≡ c → pick a b c ≡ cond (known f) (editionOf f .number) 0
-  picked a b c h i j = rw (sym h, sym i, sym j)
+  -- a file that begins as an edition has its number
+  pub begins-is : (r : Release) → begins r f ≡ true → edition r .number ≡ cond (known f) (editionOf f .number) 0
+  begins-is r h =
+      let b = begun r f h in
+      sym (ap (λ (x : Bool). cond x (editionOf f .number) 0) (b .0) ∙ ap (λ (x : Release). edition x .number) (b .1))
 
   -- by its first byte
-  same : (b : ℕ) → getD f 0 0 ≡ b → sameAt (b ∷ []) f 0 ≡ true
+  pub same : (b : ℕ) → getD f 0 0 ≡ b → sameAt (b ∷ []) f 0 ≡ true
   same b e = rw (eq-eqb (getD f 0 0) b e)
 
   other : (b : ℕ) (l : List ℕ) → (getD f 0 0 ≡ b → ⊥) → sameAt (b ∷ l) f 0 ≡ false
   other b l n = rw (ne-eqb (getD f 0 0) b n)
 
-  pub begins-113 : getD f 0 0 ≡ 113 → 113 ≡ cond (known f) (editionOf f .number) 0
-  begins-113 e = picked true (begins r114 f) (begins r117 f) (same 113 e) refl refl
-
-  pub begins-114 : getD f 0 0 ≡ 114 → 114 ≡ cond (known f) (editionOf f .number) 0
-  begins-114 e = picked false true (begins r117 f) (other 113 [] (λ h. omega arith)) (same 114 e) refl
-
   -- else by the tags of a tagged edition
-  module _ (a : getD f 0 0 ≡ 113 → ⊥) (b : getD f 0 0 ≡ 114 → ⊥) where
-    tagged-begins : (c : ℕ) → c ≡ tag (taggedStart 117) 2 .judge f 0 → eqb c 0 ≡ begins r117 f
-    tagged-begins c e = rw e (tag-same (taggedStart 117) 1 f 0 refl (omega arith))
+  pub tags-begin : (l : List ℕ) (c : ℕ) → c ≡ tag l 2 .judge f 0 → noZero l ≡ true → eqb c 0 ≡ sameAt l f 0
+  tags-begin l c e z = rw e (tag-same l 1 f 0 z (omega arith))
 
-    pub begins-117 : (c : ℕ) → c ≡ tag (taggedStart 117) 2 .judge f 0 → c ≡ 0 → 117 ≡ cond (known f) (editionOf f .number) 0
-    begins-117 c e z = picked false false true (other 113 [] a) (other 114 [] b) (sym (tagged-begins c e) ∙ eq-eqb c 0 z)
-
-    pub begins-none : (c : ℕ) → c ≡ tag (taggedStart 117) 2 .judge f 0 → (c ≡ 0 → ⊥) → 0 ≡ cond (known f) (editionOf f .number) 0
-    begins-none c e z = picked false false false (other 113 [] a) (other 114 [] b) (sym (tagged-begins c e) ∙ ne-eqb c 0 z)
+  pub begins-tagged : (n : ℕ) → n ≡ cond (begins r117 f) 117 (cond (begins r118 f) 118 0) → (getD f 0 0 ≡ 113 → ⊥) → (getD f 0 0 ≡ 114 → ⊥) → (getD f 0 0 ≡ 115 → ⊥)
+      → n ≡ cond (known f) (editionOf f .number) 0
+  begins-tagged n e x y z = e ∙ go (begins r117 f) refl (begins r118 f) refl
+    where
+      go : (a : Bool) → begins r117 f ≡ a → (b : Bool) → begins r118 f ≡ b → cond a 117 (cond b 118 0) ≡ cond (known f) (editionOf f .number) 0
+      go true h b i = begins-is r117 h
+      go false h true i = begins-is r118 i
+      go false h false i = rw (other 113 [] x, other 114 [] y, other 115 [] z, h, i)
 
   pub empty-none : length f ≡ 0 → 0 ≡ cond (known f) (editionOf f .number) 0
   empty-none e =
       let z : getD f 0 0 ≡ 0 = List·getD-eq-default f 0 (omega arith) in
-      picked false false false (other 113 [] (λ h. omega arith)) (other 114 [] (λ h. omega arith)) (other 60 (tail (taggedStart 117)) (λ h. omega arith))
+      begins-tagged 0 (sym (rw z)) (λ h. omega arith) (λ h. omega arith) (λ h. omega arith)
 
   -- bytes that are not zero are in the file
   start-room : (l : List ℕ) → noZero l ≡ true → sameAt l f 0 ≡ true → length l ≤ length f
@@ -68,35 +60,28 @@ module _ (f : List ℕ) where
       let h : eqb (tag l 4 .judge f 0) 0 ≡ true = tag-same l 3 f 0 z (omega arith) ∙ s in
       omega (arith, tag-room l 4 f 0 (eqb-true (tag l 4 .judge f 0) 0 h))
 
-  known-as : (n : ℕ) (r : Release) → releaseOf f ≡ r → begins r f ≡ true → noZero (start (edition r)) ≡ true → known f ≡ true
-      → n ≡ edition r .number → releaseBy (edition r .number) ≡ r → Known f n
-  known-as n r e s z k m b =
-      record {
-        known = k;
-        release = ap releaseBy m ∙ b ∙ sym e;
-        starts = subst (λ (x : Release). sameAt (start (edition x)) f 0 ≡ true) (sym e) s;
-        room = subst (λ (x : Release). length (start (edition x)) ≤ length f) (sym e) (start-room (start (edition r)) z s);
-      }
-
   -- what the number says
   pub number-known : (n : ℕ) → n ≡ cond (known f) (editionOf f .number) 0 → (n ≡ 0 → ⊥) → Known f n
-  number-known n e z = go (begins r113 f) refl (begins r114 f) refl (begins r117 f) refl
+  number-known n e z = go (known f) refl
     where
-      go : (a : Bool) → begins r113 f ≡ a → (b : Bool) → begins r114 f ≡ b → (c : Bool) → begins r117 f ≡ c → Known f n
-      go true h b i c j = known-as n r113 (rw h) h refl (rw h) (e ∙ sym (picked true b c h i j)) refl
-      go false h true i c j = known-as n r114 (rw (h, i)) i refl (rw (h, i)) (e ∙ sym (picked false true c h i j)) refl
-      go false h false i true j = known-as n r117 (rw (h, i)) j refl (rw (h, i, j)) (e ∙ sym (picked false false true h i j)) refl
-      go false h false i false j = absurd (z (e ∙ sym (picked false false false h i j)))
+      go : (b : Bool) → known f ≡ b → Known f n
+      go true h =
+          let s : begins (releaseOf f) f ≡ true = found (λ r. begins r f) h in
+          record {
+            known = h;
+            release = ap releaseBy (e ∙ ap (λ (x : Bool). cond x (editionOf f .number) 0) h) ∙ number-back (releaseOf f);
+            starts = s;
+            room = start-room (start (editionOf f)) (each (λ r. noZero (start (edition r))) refl (releaseOf f)) s;
+          }
+      go false h = absurd (z (e ∙ ap (λ (x : Bool). cond x (editionOf f .number) 0) h))
 
   -- 0: it begins as none
   pub none-known : (n : ℕ) → n ≡ cond (known f) (editionOf f .number) 0 → n ≡ 0 → known f ≡ false
-  none-known n e z = go (begins r113 f) refl (begins r114 f) refl (begins r117 f) refl
+  none-known n e z = go (known f) refl
     where
-      go : (a : Bool) → begins r113 f ≡ a → (b : Bool) → begins r114 f ≡ b → (c : Bool) → begins r117 f ≡ c → known f ≡ false
-      go true h b i c j = absurd (let y : _≡_ {A = ℕ} 113 0 = picked true b c h i j ∙ sym e ∙ z in omega arith)
-      go false h true i c j = absurd (let y : _≡_ {A = ℕ} 114 0 = picked false true c h i j ∙ sym e ∙ z in omega arith)
-      go false h false i true j = absurd (let y : _≡_ {A = ℕ} 117 0 = picked false false true h i j ∙ sym e ∙ z in omega arith)
-      go false h false i false j = rw (h, i, j)
+      go : (b : Bool) → known f ≡ b → known f ≡ false
+      go true h = absurd (omega (arith, widths (releaseOf f) .number-some, sym (ap (λ (x : Bool). cond x (editionOf f .number) 0) h) ∙ sym e ∙ z))
+      go false h = h
 
 -- ---- the byte order
 

@@ -1,9 +1,7 @@
 -- An edition's numbers, as code has them.
 use Prim.Native.Nat.{ℕ}
-use mathlib.Core.Bool.{Bool, cond}
-use lib.Dec.{eqb}
+use mathlib.Core.Bool.{Bool}
 use Rattle.format.specs.Edition as Format
-use Rattle.format.specs.Edition.{Release, r113, r114, r117}
 use Rattle.editions.specs.declared.Edition.{Edition}
 
 -- the numbers, as the format's definitions have them
@@ -40,11 +38,7 @@ editionBy e =
       «record_width» = e .recordWidth;
     }
 
--- the edition of a number, 117 where it is none
-abbrev pub releaseBy : ℕ → Release
-releaseBy n = cond (eqb n 113) r113 (cond (eqb n 114) r114 r117)
-
--- the numbers of an edition, from those in which editions differ
+-- the numbers of an edition from 113 to 117, from those in which they differ
 abbrev pub rowOf : ℕ → Bool → ℕ → Format.Edition
 rowOf n t w =
     record {

@@ -9,7 +9,7 @@ use lib.Dec.{eqb, leb}
 use Rattle.format.specs.Slot.{Slot, dead}
 use Rattle.format.specs.Number.{msf, lsf}
 use Rattle.format.specs.Grammar.{Sect, unless, textSlots, endedSlots, area, tag, between, done}
-use Rattle.format.specs.Edition.{Edition, r113, edition, ascii}
+use Rattle.format.specs.Edition.{Edition, r113, r117, r118, edition, ascii}
 use Rattle.format.specs.Header.{oldStamp, oldHeader, counted, newFacts, newHeader, stampLength}
 use Rattle.format.specs.Variables.{textType, strLType, doubleType, fileMap, typeCode, types, name, names, sortList, fields}
 use Rattle.format.specs.Expansion.{expansionHead, expansionBody, expansion, expansions}
@@ -51,6 +51,13 @@ headers =
     ∷ ("117 label: a zero inside", counted msf 1 (λ x. leb x 80) .judge (2 ∷ 65 ∷ 0 ∷ []) 0, 5)
     ∷ ("117: K's rule before </K>", newFacts msf 4 1 80 .judge (ascii "<K>" ++ (255 ∷ 255 ∷ []) ++ ascii "</X>") 0, 5)
     ∷ ("a cut tag that differs", tag (ascii "<map>") 4 .judge (ascii "<mxp") 0, 3)
+    ∷ ("118: a high byte of N", newFacts msf 8 2 320 .judge (ascii "<K>" ++ (0 ∷ 1 ∷ []) ++ ascii "</K><N>" ++ (1 ∷ replicate 7 0)) 0, 5)
+    ∷ ("118: 7 bytes of N", newFacts msf 8 2 320 .judge (ascii "<K>" ++ (0 ∷ 1 ∷ []) ++ ascii "</K><N>" ++ replicate 7 0) 0, 3)
+    ∷ ("118 label: 1 byte of its length", counted lsf 2 (λ x. leb x 320) .judge (0 ∷ []) 0, 3)
+    ∷ ("118 label: length 320, no bytes", counted lsf 2 (λ x. leb x 320) .judge (64 ∷ 1 ∷ []) 0, 3)
+    ∷ ("118 label: length 321 before its bytes", counted lsf 2 (λ x. leb x 320) .judge (65 ∷ 1 ∷ []) 0, 5)
+    ∷ ("118 label: 81 bytes", counted msf 2 (λ x. leb x 320) .judge (0 ∷ 81 ∷ replicate 81 65) 0, 0)
+    ∷ ("118 label: a zero inside", counted msf 2 (λ x. leb x 320) .judge (0 ∷ 2 ∷ 65 ∷ 0 ∷ []) 0, 5)
     ∷ ("117 stamp: 16 bytes", counted msf 1 stampLength .judge (16 ∷ replicate 16 65) 0, 5)
     ∷ []
 
@@ -132,11 +139,16 @@ longStrings =
     ∷ ("kind 130 without its zero", eleven ((link 1 1 ∷ []) ∷ []) (gso 1 1 130 (65 ∷ 66 ∷ []) ∷ []), 11)
     ∷ ("11 before </strls>", strls true msf 4 ((link 1 1 ∷ []) ∷ []) .judge (ascii "<strls></strlx>") 0, 11)
     ∷ ("11 before a missing </strls>", strls true msf 4 ((link 1 1 ∷ []) ∷ []) .judge (ascii "<strls>GS") 0, 11)
+    ∷ ("118: a record with 8 bytes of o", strls true lsf 8 ((link 1 1 ∷ []) ∷ []) .judge (ascii "<strls>GSO" ++ (1 ∷ 0 ∷ 0 ∷ 0 ∷ 1 ∷ replicate 7 0) ++ (129 ∷ replicate 4 0) ++ ascii "</strls>") 0, 0)
+    ∷ ("118: a high byte of o in a record", strls true lsf 8 ((link 1 1 ∷ []) ∷ []) .judge (ascii "<strls>GSO" ++ (1 ∷ 0 ∷ 0 ∷ 0 ∷ 1 ∷ replicate 6 0) ++ (1 ∷ 129 ∷ replicate 4 0) ++ ascii "</strls>") 0, 11)
+    ∷ ("118: a record's head a byte short", strls true lsf 8 ((link 1 1 ∷ []) ∷ []) .judge (ascii "<strls>GSO" ++ replicate 16 0) 0, 3)
+    ∷ ("118: a cell with v in 2 bytes, o in 6", strls true msf 8 (observations true msf 2 6 (strLType ∷ []) 1 .read (ascii "<data>" ++ (0 ∷ 1 ∷ 0 ∷ 0 ∷ 0 ∷ 0 ∷ 0 ∷ 1 ∷ [])) 0) .judge (ascii "<strls></strls>") 0, 11)
+    ∷ ("118: v and o zero", strls true msf 8 (observations true msf 2 6 (strLType ∷ []) 1 .read (ascii "<data>" ++ replicate 8 0) 0) .judge (ascii "<strls></strls>") 0, 0)
     ∷ ("</strls> differs", strls true msf 4 [] .judge (ascii "<strls></strlx>") 0, 4)
     ∷ []
 
 long-strings-agree : wrong longStrings ≡ []
-unfolding longStrings linked strls longRecord longHead tag
+unfolding longStrings linked strls longRecord longHead observations between tag
 long-strings-agree = refl
 
 -- ---- label blocks
@@ -182,6 +194,8 @@ labels =
     ∷ ("65,537 entries", unless (tableSizes 524304 (65537, 0)) 12, 12)
     ∷ ("5,308,416 text bytes", unless (tableSizes 5308424 (0, 5308416)) 12, 0)
     ∷ ("5,308,417 text bytes", unless (tableSizes 5308425 (0, 5308417)) 12, 12)
+    ∷ ("118: block head short", block true msf 129 .judge (ascii "<lbl>" ++ replicate 135 0) 0, 3)
+    ∷ ("118: a name of 33 bytes", block true msf 129 .judge (ascii "<lbl>" ++ (0 ∷ 0 ∷ 0 ∷ 8 ∷ []) ++ replicate 33 65 ++ replicate 107 0 ++ ascii "</lbl>") 0, 0)
     ∷ ("<lbl> not next", blocks true msf 33 (done 13) .judge (ascii "<value_labels><lbx></value_labels>") 0, 4)
     ∷ []
 
@@ -242,6 +256,12 @@ targets =
     ∷ ("str2045 and strL to a tagged edition", fifteen (allTypes true (textType 2045 ∷ strLType ∷ [])), 0)
     ∷ ("a display format of 11 bytes to 113", fifteen (allShorter (edition r113 .formatWidth) (replicate 11 65 ∷ [])), 0)
     ∷ ("a display format of 12 bytes to 113", fifteen (allShorter (edition r113 .formatWidth) (replicate 12 65 ∷ [])), 15)
+    ∷ ("a name of 32 bytes to 117", fifteen (allShorter (edition r117 .nameWidth) (replicate 32 65 ∷ [])), 0)
+    ∷ ("a name of 33 bytes to 117", fifteen (allShorter (edition r117 .nameWidth) (replicate 33 65 ∷ [])), 15)
+    ∷ ("a name of 128 bytes to 118", fifteen (allShorter (edition r118 .nameWidth) (replicate 128 65 ∷ [])), 0)
+    ∷ ("a display format of 56 bytes to 117", fifteen (allShorter (edition r117 .formatWidth) (replicate 56 65 ∷ [])), 15)
+    ∷ ("a variable label of 320 bytes to 118", fifteen (allShorter (edition r118 .varLabelWidth) (replicate 320 65 ∷ [])), 0)
+    ∷ ("a dataset label of 81 bytes to 117", fifteen (leb 81 (edition r117 .labelMax)), 15)
     ∷ []
 
 targets-agree : wrong targets ≡ []
@@ -250,32 +270,52 @@ targets-agree = refl
 
 -- ---- files
 
--- a 117 file of no variables
-unfoldable least : List ℕ
-least =
-    ascii "<stata_dta><header><release>117</release><byteorder>MSF</byteorder><K>" ++ (0 ∷ 0 ∷ [])
-    ++ ascii "</K><N>" ++ replicate 4 0
-    ++ ascii "</N><label>" ++ (0 ∷ [])
+-- a file of no variables, of a tagged edition with this last digit, N in n bytes, the label's length in l, and this map
+abbrev none : ℕ → ℕ → ℕ → List ℕ → List ℕ
+none c n l m =
+    ascii "<stata_dta><header><release>11" ++ (c ∷ []) ++ ascii "</release><byteorder>MSF</byteorder><K>" ++ (0 ∷ 0 ∷ [])
+    ++ ascii "</K><N>" ++ replicate n 0
+    ++ ascii "</N><label>" ++ replicate l 0
     ++ ascii "</label><timestamp>" ++ (0 ∷ [])
-    ++ ascii "</timestamp></header><map>"
-    ++ at 0 0 ++ at 0 136 ++ at 1 3 ++ at 1 36 ++ at 1 57 ++ at 1 80 ++ at 1 99
-    ++ at 1 138 ++ at 1 173 ++ at 1 208 ++ at 1 221 ++ at 1 236 ++ at 2 9 ++ at 2 21
+    ++ ascii "</timestamp></header><map>" ++ m
     ++ ascii "</map><variable_types></variable_types><varnames></varnames><sortlist>" ++ (0 ∷ 0 ∷ [])
     ++ ascii "</sortlist><formats></formats><value_label_names></value_label_names><variable_labels></variable_labels>"
     ++ ascii "<characteristics></characteristics><data></data><strls></strls><value_labels></value_labels></stata_dta>"
+
+-- of 117
+unfoldable least : List ℕ
+least =
+    none 55 4 1
+    (at 0 0 ++ at 0 136 ++ at 1 3 ++ at 1 36 ++ at 1 57 ++ at 1 80 ++ at 1 99
+    ++ at 1 138 ++ at 1 173 ++ at 1 208 ++ at 1 221 ++ at 1 236 ++ at 2 9 ++ at 2 21)
+
+-- of 118
+unfoldable least118 : List ℕ
+least118 =
+    none 56 8 2
+    (at 0 0 ++ at 0 141 ++ at 1 8 ++ at 1 41 ++ at 1 62 ++ at 1 85 ++ at 1 104
+    ++ at 1 143 ++ at 1 178 ++ at 1 213 ++ at 1 226 ++ at 1 241 ++ at 2 14 ++ at 2 26)
 
 files : List Row
 files =
     ("empty file", verdict [], 2)
     ∷ ("the byte 114", verdict (114 ∷ []), 3)
+    ∷ ("the byte 115", verdict (115 ∷ []), 3)
     ∷ ("the byte 116", verdict (116 ∷ []), 2)
+    ∷ ("the byte 118", verdict (118 ∷ []), 2)
     ∷ ("no variables", verdict least, 0)
     ∷ ("without </stata_dta>", verdict (take 521 least), 3)
     ∷ ("a byte after </stata_dta>", verdict (least ++ 0 ∷ []), 13)
     ∷ ("a wrong position", verdict (set least 148 1), 10)
     ∷ ("13 before 10", verdict (set least 148 1 ++ 0 ∷ []), 13)
+    ∷ ("118: no variables", verdict least118, 0)
+    ∷ ("118 with 117's widths", verdict (set least 30 56), 5)
+    ∷ ("117 with 118's widths", verdict (set least118 30 55), 4)
+    ∷ ("118: a wrong position", verdict (set least118 153 1), 10)
+    ∷ ("119", verdict (set least118 30 57), 2)
+    ∷ ("116 as a tagged edition", verdict (set least 30 54), 2)
     ∷ []
 
 files-agree : wrong files ≡ []
-unfolding files least verdict fileTo sections fromMap fromTypes fromNames fromSortList fromFormats fromSetNames fromVarLabels fromExpansions fromData fromStrls partSizes oldHeader oldStamp newFacts newHeader counted fileMap typeCode types name names sortList fields expansions observations linked strls blocks tag between
+unfolding files least least118 verdict fileTo sections fromMap fromTypes fromNames fromSortList fromFormats fromSetNames fromVarLabels fromExpansions fromData fromStrls partSizes oldHeader oldStamp newFacts newHeader counted fileMap typeCode types name names sortList fields expansions observations linked strls blocks tag between
 files-agree = refl

@@ -11,14 +11,14 @@ use borrow.Author.Tests.{eqb-true, eq-eqb, leb-true, le-leb}
 use Rattle.format.specs.Slot.{Slot, byte, spare, Fits, Bytes, fill, dead}
 use Rattle.format.specs.Number.{Order, msf, lsf, orderBy}
 use Rattle.format.specs.Grammar.{Sect, also, unless, ruled, seq, told, done, idle, tag, between, sameAt}
-use Rattle.format.specs.Edition.{Edition, Release, r113, r114, r117, edition, taggedStart, start, orderMark, orderText, opening, closing, n-byteorder}
-use Rattle.format.specs.Header.{Head, oldHeader, newFacts, newHeader, header}
+use Rattle.format.specs.Edition.{Edition, Release, edition, releases, taggedStart, startBy, start, orderMark, orderText, opening, closing, n-byteorder}
+use Rattle.format.specs.Header.{Head, oldHeader, newFacts, newHeader, headerBy, header}
 use Rattle.format.specs.Variables.{VarType}
 use Rattle.format.specs.Data.{Cell}
-use Rattle.format.specs.Dta.{Dataset, Extras, Parts, gather, headOf, spread, positions, mapOf, sameList, mapRule, fromStrls, fromData, fromExpansions, fromVarLabels, fromSetNames, fromFormats, fromSortList, fromNames, fromTypes, fromMap, sections, fileTo, file, begins, known, releaseOf, editionOf, orderOf, lengthMax, verdict, contents, datasetOf, Layout, noLayout, layoutBy, layoutOf, deadIn, written}
+use Rattle.format.specs.Dta.{Dataset, Extras, Parts, gather, headOf, spread, positions, mapOf, sameList, mapRule, fromStrls, fromData, fromExpansions, fromVarLabels, fromSetNames, fromFormats, fromSortList, fromNames, fromTypes, fromMap, sections, fileTo, file, begins, known, releaseOf, editionOf, isMsf, orderOf, lengthMax, verdict, contents, datasetOf, Layout, noLayout, layoutBy, layoutOf, deadIn, written}
 use Rattle.format.proofs.SlotLaws.{fits-left, fits-right, fits-fill, fits-live, length-fill, small-fill}
 use Rattle.format.proofs.Good.{Good, Complete, Sound, and-left, and-right, fits-same, also-left, also-right, also-both, unless-true, unless-holds, done-good, idle-good, ruled-good, told-good, seq-good}
-use Rattle.format.proofs.AreaLaws.{or-right}
+use Rattle.format.proofs.EditionLaws.{Widths, widths, every, each, sole, number-same}
 use Rattle.format.proofs.HeaderLaws.{header-good}
 use Rattle.format.proofs.VariableLaws.{map-good, types-good, names-good, sort-good, fields-good}
 use Rattle.format.proofs.ExpansionLaws.{expansions-good}
@@ -100,9 +100,7 @@ pub open-good : (e : Edition) (o : Order) → e .number < 256 → e .tagged ≡ 
 open-good e o z t = file-to-good e o z _≤_ (idle 0 0) (idle-good 0 0 (omega arith)) (λ u. refl) (λ q. absurd (true≢false (sym t ∙ q)))
 
 pub number-small : (r : Release) → edition r .number < 256
-number-small r113 = omega arith
-number-small r114 = omega arith
-number-small r117 = omega arith
+number-small r = widths r .number-most
 
 -- a file of one of the editions is good
 pub read-good : (r : Release) (o : Order) → Good 0 _≡_ (file (edition r) o)
@@ -150,13 +148,46 @@ order-new : (o : Order) (f : List ℕ) → sameAt (orderText o) f 52 ≡ true �
 order-new msf f h = rw h
 order-new lsf f h = rw (first-of 76 (83 ∷ 70 ∷ []) f 52 h)
 
+-- by a header: how the file begins, and its byte order
+header-start : (t : Bool) (e : Edition) (o : Order) (f : List ℕ) (h : Head) → Fits f 0 (headerBy t e o .slots h)
+    → (sameAt (startBy t (e .number)) f 0 ≡ true) × (orderBy (isMsf t f) ≡ o)
+header-start true e o f h m = let s = new-start (e .number) o (e .nWidth) (e .labelLength) (e .labelMax) f h m in (s .0, order-new o f (s .1))
+header-start false e o f h m =
+    let s = old-start (e .number) o (e .nWidth) (e .labelMax) f h m in (rw (eq-eqb (getD f 0 0) (e .number) (s .0)), order-old o f (s .1))
+
+-- two lists differ at a place that both have
+abbrev differ : List ℕ → List ℕ → Bool
+differ [] m = false
+differ (x ∷ l) [] = false
+differ (x ∷ l) (y ∷ m) = not (eqb y x) || differ l m
+
+-- .. so where one stands, the other does not
+other : (l m f : List ℕ) (p : ℕ) → differ l m ≡ true → sameAt m f p ≡ true → sameAt l f p ≡ false
+other [] m f p d h = absurd (true≢false (sym d))
+other (x ∷ l) [] f p d h = absurd (true≢false (sym d))
+other (x ∷ l) (y ∷ m) f p d h =
+    rw (first-of y m f p h) (go (eqb y x) d (other l m f (suc p)))
+  where
+    go : (t : Bool) → (not t || differ l m) ≡ true → (differ l m ≡ true → sameAt m f (suc p) ≡ true → sameAt l f (suc p) ≡ false) → (t && sameAt l f (suc p)) ≡ false
+    go true q ih = ih q (and-right (eqb (getD f p 0) y) (sameAt m f (suc p)) h)
+    go false q ih = refl
+
+-- no edition begins as another does
+apart : (s r : Release) → (eqb (edition s .number) (edition r .number) || differ (start (edition s)) (start (edition r))) ≡ true
+apart s r = each (λ x. eqb (edition s .number) (edition x .number) || differ (start (edition s)) (start (edition x))) (each (λ y. every (λ x. eqb (edition y .number) (edition x .number) || differ (start (edition y)) (start (edition x))) releases) refl s) r
+
+pub begun : (r : Release) (f : List ℕ) → begins r f ≡ true → (known f ≡ true) × (releaseOf f ≡ r)
+begun r f h = sole (λ s. begins s f) r h λ s k. go s k (eqb (edition s .number) (edition r .number)) refl (apart s r)
+  where
+    go : (s : Release) → begins s f ≡ true → (b : Bool) → eqb (edition s .number) (edition r .number) ≡ b → (b || differ (start (edition s)) (start (edition r))) ≡ true → s ≡ r
+    go s k true q d = number-same s r (eqb-true (edition s .number) (edition r .number) q)
+    go s k false q d = absurd (true≢false (sym k ∙ other (start (edition s)) (start (edition r)) f 0 d h))
+
 pub marked : (r : Release) (o : Order) (f : List ℕ) (h : Head) → Fits f 0 (header (edition r) o .slots h) → Marked r o f
-marked r113 o f h m = let s = old-start 113 o 4 80 f h m in record { is-known = rw (s .0); release = rw (s .0); order = rw (s .0) (order-old o f (s .1)) }
-marked r114 o f h m = let s = old-start 114 o 4 80 f h m in record { is-known = rw (s .0); release = rw (s .0); order = rw (s .0) (order-old o f (s .1)) }
-marked r117 o f h m =
-    let s = new-start 117 o 4 1 80 f h m in
-    let z = first-of 60 (drop 1 (taggedStart 117)) f 0 (s .0) in
-    record { is-known = or-right (begins r113 f) _ (or-right (begins r114 f) (begins r117 f) (s .0)); release = rw z; order = rw z (order-new o f (s .1)) }
+marked r o f h m =
+    let s = header-start (edition r .tagged) (edition r) o f h m in
+    let b = begun r f (s .0) in
+    record { is-known = b .0; release = b .1; order = ap (λ (x : Release). orderBy (isMsf (edition x .tagged) f)) (b .1) ∙ s .1 }
 
 -- ---- theorems
 

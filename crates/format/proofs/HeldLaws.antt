@@ -10,7 +10,7 @@ use borrow.Author.Tests.{eqb-true, ne-eqb, leb-true, leb-false, le-leb, ltb-true
 use Rattle.format.specs.Slot.{Bytes}
 use Rattle.format.specs.Number.{Order}
 use Rattle.format.specs.Grammar.{Sect, number, noZero, text, sizes, AllRight, tag, between, row, RowRight, done}
-use Rattle.format.specs.Edition.{Edition, Release, r113, r114, r117, edition, codeWidth, textMax, mapCount}
+use Rattle.format.specs.Edition.{Edition, Release, edition, codeWidth, textMax, mapCount}
 use Rattle.format.specs.Header.{Head, kRule, nRule, stampLength, oldStamp, oldHeader, counted, newFacts, newHeader, headerBy, header}
 use Rattle.format.specs.Variables.{fileMap, VarType, textType, strLType, byteType, intType, longType, floatType, doubleType, typeBy, hasType, typeCode, types, name, names, sortList, fields, formats, setNames, varLabels}
 use Rattle.format.specs.Expansion.{expansions}
@@ -18,6 +18,7 @@ use Rattle.format.specs.Data.{Cell, bits, chars, link, linkOf, cell, obs
 use Rattle.format.specs.Labels.{tableHead, tableBody, table, LabelBlock, blockHead, block, blocks}
 use Rattle.format.specs.Dta.{Dataset, Extras, headOf, sums, partSizes, positions, mapOf, fromStrls, fromData, fromExpansions, fromVarLabels, fromSetNames, fromFormats, fromSortList, fromNames, fromTypes, fromMap, sections, fileTo, file, releaseOf, editionOf, orderOf, lengthMax, verdict, contents, datasetOf, Layout, layoutOf, written, allShorter, allTypes, blockNames, holds}
 use Rattle.format.proofs.Good.{and-left, and-right}
+use Rattle.format.proofs.EditionLaws.{each}
 use Rattle.format.proofs.FileLaws.{Accepted, sound, read-back, written-length, written-bytes}
 use Rattle.format.proofs.PartLaws.{total, size-total, thirteen, SectionsRight, sections-of, of-sections}
 
@@ -79,24 +80,14 @@ pub record Roomy (e : Edition) : Type 0 where
   pub for-record : 2147483647 < 256 ^ e .recordWidth
 
 pub roomy : (r : Release) → Roomy (edition r)
-roomy r113 = record { for-n = omega arith; for-label = omega arith; for-v = omega arith; for-o = omega arith; for-record = omega arith }
-roomy r114 = record { for-n = omega arith; for-label = omega arith; for-v = omega arith; for-o = omega arith; for-record = omega arith }
-roomy r117 = record { for-n = omega arith; for-label = omega arith; for-v = omega arith; for-o = omega arith; for-record = omega arith }
-
--- rows of two editions that are not read yet: they have room too
-abbrev edition115 : Edition
-edition115 =
-    record { number = 115; tagged = false; nWidth = 4; labelMax = 80; labelLength = 1; nameWidth = 33; formatWidth = 49; varLabelWidth = 81; vWidth = 4; oWidth = 4; recordWidth = 4 }
-
-abbrev edition118 : Edition
-edition118 =
-    record { number = 118; tagged = true; nWidth = 8; labelMax = 320; labelLength = 2; nameWidth = 129; formatWidth = 57; varLabelWidth = 321; vWidth = 2; oWidth = 6; recordWidth = 8 }
-
-roomy-115 : Roomy edition115
-roomy-115 = record { for-n = omega arith; for-label = omega arith; for-v = omega arith; for-o = omega arith; for-record = omega arith }
-
-roomy-118 : Roomy edition118
-roomy-118 = record { for-n = omega arith; for-label = omega arith; for-v = omega arith; for-o = omega arith; for-record = omega arith }
+roomy r =
+    record {
+      for-n = ltb-true 2147483647 _ (each (λ s. ltb 2147483647 (256 ^ edition s .nWidth)) refl r);
+      for-label = ltb-true _ _ (each (λ s. ltb (edition s .labelMax) (256 ^ edition s .labelLength)) refl r);
+      for-v = ltb-true 32767 _ (each (λ s. ltb 32767 (256 ^ edition s .vWidth)) refl r);
+      for-o = ltb-true 2147483647 _ (each (λ s. ltb 2147483647 (256 ^ edition s .oWidth)) refl r);
+      for-record = ltb-true 2147483647 _ (each (λ s. ltb 2147483647 (256 ^ edition s .recordWidth)) refl r);
+    }
 
 -- K and N have room
 head-room : (e : Edition) (h : Head) → Roomy e → HeadRight h → (h .0 < 256 ^ 2) × (h .1 .0 < 256 ^ e .nWidth)

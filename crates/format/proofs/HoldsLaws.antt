@@ -1,5 +1,5 @@
--- Number 15 as document 01 puts it: of an accepted file's dataset, 117 holds all, 114 all but strL and texts wider than 244, 113 all of
--- these but display formats over 11 bytes; each within the length bound.
+-- Number 15: of an accepted file's dataset, an edition whose fields are as wide as those of the file's own lacks nothing but types, and 118 lacks
+-- nothing; each within the length bound.
 use mathlib.Core.Path.{_≡_, refl, _∙_}
 use Prim.Native.Nat.{ℕ, _≤_, _<_}
 use native.Mathlib.Omega.{arith}
@@ -11,12 +11,13 @@ use borrow.Author.Tests.{leb-true, le-leb, lt-ltb}
 use Rattle.format.specs.Slot.{Bytes}
 use Rattle.format.specs.Number.{Order}
 use Rattle.format.specs.Grammar.{Sect, text, AllRight, tag, between, done}
-use Rattle.format.specs.Edition.{Edition, Release, r113, r114, r117, edition, textMax}
+use Rattle.format.specs.Edition.{Edition, Release, r118, edition, AsWide, textMax}
 use Rattle.format.specs.Header.{Head, oldHeader, counted, newFacts, newHeader, headerBy}
 use Rattle.format.specs.Variables.{VarType, textType, strLType, byteType, intType, longType, floatType, doubleType, hasType, typeCode, types, name, names, fields}
 use Rattle.format.specs.Labels.{LabelBlock, blockHead, block, blocks}
 use Rattle.format.specs.Dta.{Dataset, Extras, headOf, file, releaseOf, editionOf, orderOf, lengthMax, verdict, contents, datasetOf, allShorter, allTypes, blockNames, holds}
 use Rattle.format.proofs.Good.{and-left, and-right}
+use Rattle.format.proofs.EditionLaws.{Widths, widths}
 use Rattle.format.proofs.FileLaws.{sound}
 use Rattle.format.proofs.PartLaws.{SectionsRight, sections-of}
 
@@ -61,43 +62,26 @@ blocks-short t o w z l b r = all-blocks-short t o w z l b (r .1 .0)
 
 -- ---- what `holds` asks
 
--- of what an edition says, another whose names and labels are as wide can fail to hold types, display formats and the length only
-holds-by : (e z : Edition) (o q : Order) (d : Dataset) (x : Extras) → file e o .Right (d, x)
-    → e .labelMax ≤ z .labelMax → e .nameWidth ≤ z .nameWidth → e .varLabelWidth ≤ z .varLabelWidth
-    → holds z q d ≡ (allTypes (z .tagged) (d .varTypes) && (allShorter (z .formatWidth) (d .displayFormats) && leb (file z q .size (d, [])) lengthMax))
+-- of what an edition says, another whose fields are as wide can fail to hold types and the length only
+holds-by : (e z : Edition) (o q : Order) (d : Dataset) (x : Extras) → file e o .Right (d, x) → AsWide e z
+    → holds z q d ≡ (allTypes (z .tagged) (d .varTypes) && leb (file z q .size (d, [])) lengthMax)
 unfolding holds
-holds-by e z o q d x r a b c =
+holds-by e z o q d x r w =
     let s = sections-of e o d x r in
-    let l = le-leb (length (d .label)) (z .labelMax) (omega (arith, label-short (e .tagged) e o (headOf d) (s .head))) in
-    let n = names-short (e .tagged) (e .nameWidth) (z .nameWidth) (d .k) (d .varNames) b (s .nameList) in
-    let v = fields-short (e .tagged) _ (e .nameWidth) (z .nameWidth) (d .k) (d .labelSets) b (s .setList) in
-    let w = fields-short (e .tagged) _ (e .varLabelWidth) (z .varLabelWidth) (d .k) (d .variableLabels) c (s .labelList) in
-    rw (l, n, v, w, blocks-short (e .tagged) o (e .nameWidth) (z .nameWidth) (d .labelBlocks) b (s .blockList))
-
--- .. and of the display formats, none that are no longer than its own
-formats-have : (e : Edition) (o : Order) (d : Dataset) (x : Extras) (z : ℕ) → file e o .Right (d, x) → e .formatWidth ≤ z → allShorter z (d .displayFormats) ≡ true
-formats-have e o d x z r b = fields-short (e .tagged) _ (e .formatWidth) z (d .k) (d .displayFormats) b (sections-of e o d x r .formatList)
+    let l = le-leb (length (d .label)) (z .labelMax) (omega (arith, label-short (e .tagged) e o (headOf d) (s .head), w .label)) in
+    let n = names-short (e .tagged) (e .nameWidth) (z .nameWidth) (d .k) (d .varNames) (w .names) (s .nameList) in
+    let m = fields-short (e .tagged) _ (e .formatWidth) (z .formatWidth) (d .k) (d .displayFormats) (w .formats) (s .formatList) in
+    let v = fields-short (e .tagged) _ (e .nameWidth) (z .nameWidth) (d .k) (d .labelSets) (w .names) (s .setList) in
+    let y = fields-short (e .tagged) _ (e .varLabelWidth) (z .varLabelWidth) (d .k) (d .variableLabels) (w .labels) (s .labelList) in
+    rw (l, n, m, v, y, blocks-short (e .tagged) o (e .nameWidth) (z .nameWidth) (d .labelBlocks) (w .names) (s .blockList))
 
 -- `holds` asks no more than it must: a dataset that a file of the edition and byte order can say, within the length bound, is held
 pub holds-only : (e : Edition) (o : Order) (d : Dataset) (x : Extras) → file e o .Right (d, x) → file e o .size (d, []) ≤ lengthMax → holds e o d ≡ true
 holds-only e o d x r b =
-    holds-by e e o o d x r (omega arith) (omega arith) (omega arith)
-    ∙ rw (types-have (e .tagged) o (d .k) (d .varTypes) (sections-of e o d x r .typeList), formats-have e o d x (e .formatWidth) r (omega arith))
-    (le-leb (file e o .size (d, [])) lengthMax b)
+    holds-by e e o o d x r (record { label = omega arith; names = omega arith; formats = omega arith; labels = omega arith })
+    ∙ rw (types-have (e .tagged) o (d .k) (d .varTypes) (sections-of e o d x r .typeList)) (le-leb (file e o .size (d, [])) lengthMax b)
 
 -- ---- the editions
-
--- they differ in types and display formats only
-record Alike (r : Release) : Type 0 where
-  name-33 : edition r .nameWidth ≡ 33
-  label-81 : edition r .varLabelWidth ≡ 81
-  label-80 : edition r .labelMax ≡ 80
-  format-49 : edition r .formatWidth ≤ 49
-
-alike : (r : Release) → Alike r
-alike r113 = record { name-33 = refl; label-81 = refl; label-80 = refl; format-49 = omega arith }
-alike r114 = record { name-33 = refl; label-81 = refl; label-80 = refl; format-49 = omega arith }
-alike r117 = record { name-33 = refl; label-81 = refl; label-80 = refl; format-49 = omega arith }
 
 -- a tagged edition has all types
 wide-text : (t : Bool) (w : ℕ) → w ≤ textMax t → w ≤ 2045
@@ -121,30 +105,21 @@ wide-types t (x ∷ l) h =
     rw (wide-type t x (and-left (hasType t x) (allTypes t l) h)) (wide-types t l (and-right (hasType t x) (allTypes t l) h))
 
 module _ (f : List ℕ) (u : Bytes f) (a : verdict f ≡ 0) (o : Order) where
-  -- of any edition: only types, display formats and length can fail
-  pub holds-if : (r : Release) → holds (edition r) o (datasetOf f)
-      ≡ (allTypes (edition r .tagged) (datasetOf f .varTypes) && (allShorter (edition r .formatWidth) (datasetOf f .displayFormats) && leb (file (edition r) o .size (datasetOf f, [])) lengthMax))
-  holds-if r =
-      let s = alike (releaseOf f) in
-      let t = alike r in
-      holds-by (editionOf f) (edition r) (orderOf f) o (datasetOf f) (contents f .1) (sound f u a .right)
-      (omega (arith, s .label-80, t .label-80)) (omega (arith, s .name-33, t .name-33)) (omega (arith, s .label-81, t .label-81))
+  R : file (editionOf f) (orderOf f) .Right (datasetOf f, contents f .1)
+  R = sound f u a .right
 
-  formats-49 : allShorter 49 (datasetOf f .displayFormats) ≡ true
-  formats-49 = formats-have (editionOf f) (orderOf f) (datasetOf f) (contents f .1) 49 (sound f u a .right) (alike (releaseOf f) .format-49)
-
-  types-117 : allTypes true (datasetOf f .varTypes) ≡ true
-  types-117 =
-      let s = sections-of (editionOf f) (orderOf f) (datasetOf f) (contents f .1) (sound f u a .right) in
+  types-all : allTypes true (datasetOf f .varTypes) ≡ true
+  types-all =
       wide-types (editionOf f .tagged) (datasetOf f .varTypes)
-      (types-have (editionOf f .tagged) (orderOf f) (datasetOf f .k) (datasetOf f .varTypes) (s .typeList))
+      (types-have (editionOf f .tagged) (orderOf f) (datasetOf f .k) (datasetOf f .varTypes) (sections-of (editionOf f) (orderOf f) (datasetOf f) (contents f .1) R .typeList))
 
-  pub holds-113 : holds (edition r113) o (datasetOf f)
-      ≡ (allTypes false (datasetOf f .varTypes) && (allShorter 12 (datasetOf f .displayFormats) && leb (file (edition r113) o .size (datasetOf f, [])) lengthMax))
-  holds-113 = holds-if r113
+  -- an edition whose fields are as wide as those of the file's own: only types and length can fail
+  pub holds-wide : (r : Release) → AsWide (editionOf f) (edition r) → holds (edition r) o (datasetOf f)
+      ≡ (allTypes (edition r .tagged) (datasetOf f .varTypes) && leb (file (edition r) o .size (datasetOf f, [])) lengthMax)
+  holds-wide r w = holds-by (editionOf f) (edition r) (orderOf f) o (datasetOf f) (contents f .1) R w
 
-  pub holds-114 : holds (edition r114) o (datasetOf f) ≡ (allTypes false (datasetOf f .varTypes) && leb (file (edition r114) o .size (datasetOf f, [])) lengthMax)
-  holds-114 = holds-if r114 ∙ rw formats-49
-
-  pub holds-117 : holds (edition r117) o (datasetOf f) ≡ leb (file (edition r117) o .size (datasetOf f, [])) lengthMax
-  holds-117 = holds-if r117 ∙ rw (types-117, formats-49)
+  -- 118 has the widest fields and all types: only the length can fail
+  pub holds-118 : holds (edition r118) o (datasetOf f) ≡ leb (file (edition r118) o .size (datasetOf f, [])) lengthMax
+  holds-118 =
+      let s = widths (releaseOf f) in
+      holds-wide r118 (record { label = s .label-most; names = s .name-most; formats = s .format-most; labels = s .var-label-most }) ∙ rw types-all

@@ -8,6 +8,7 @@ pub mod RowLaws
 pub mod EndedLaws
 pub mod AreaLaws
 pub mod TagLaws
+pub mod EditionLaws
 pub mod HeaderLaws
 pub mod VariableLaws
 pub mod ExpansionLaws

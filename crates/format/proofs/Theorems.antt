@@ -1,4 +1,4 @@
--- The theorems about .dta files of editions 113, 114 and 117, on one page. What is meant by each word stands in specs/: `verdict`,
+-- The theorems about .dta files of editions 113, 114, 115, 117 and 118, on one page. What is meant by each word stands in specs/: `verdict`,
 -- `contents`, `datasetOf`, `layoutOf`, `written`, `holds`, `cuts` and `deadIn` in Dta.antt, `DeadPlace` in Dead.antt, `Fits` and
 -- `Bytes` in Slot.antt. A file is any list of bytes.
 use mathlib.Core.Path.{_≡_, ap, _∙_, sym}
@@ -89,8 +89,8 @@ dead-bytes f g bytes accepted long same =
       dataset = ap (λ (w : Dataset × Extras). w .0) (a .says);
     }
 
--- 5. Cut files: a beginning of an accepted file is accepted exactly if it ends at a cut. In 117 only the whole file does; in 113 and 114
--- the data's end and the end of each label block do.
+-- 5. Cut files: a beginning of an accepted file is accepted exactly if it ends at a cut. In 117 and 118 only the whole file does; in 113, 114
+-- and 115 the data's end and the end of each label block do.
 pub cut-files : (f : List ℕ) → Bytes f → verdict f ≡ 0 → (n : ℕ) → n ≤ length f → Iff (verdict (take n f) ≡ 0) (member n (cuts f) ≡ true)
 cut-files = CutLaws.cut-file
 

@@ -8,14 +8,14 @@ use lib.Dec.{eqb, leb, ltb}
 use Rattle.format.specs.Slot.{Slot, fill, dead}
 use Rattle.format.specs.Number.{Order, msf, orderBy}
 use Rattle.format.specs.Grammar.{Sect, also, unless, ruled, seq, told, done, sizes, eachSize, sameAt}
-use Rattle.format.specs.Edition.{Edition, Release, r113, r114, r117, edition, start, orderMark, orderText, mapCount, opening, closing, n-map, n-value-labels, n-stata-dta}
+use Rattle.format.specs.Edition.{Edition, Release, edition, releases, some, first, start, orderMark, orderText, mapCount, opening, closing, n-map, n-value-labels, n-stata-dta}
 use Rattle.format.specs.Header.{Head, header}
 use Rattle.format.specs.Variables.{fileMap, VarType, hasType, types, names, sortList, formats, setNames, varLabels}
 use Rattle.format.specs.Expansion.{Expansion, expansions}
 use Rattle.format.specs.Data.{Cell, observations, LongString, strls}
 use Rattle.format.specs.Labels.{LabelBlock, block, blocks}
 
--- what a file says (document 01, "Three editions, one dataset")
+-- what a file says (document 01, "Three editions, one dataset"; it is the same in all five)
 pub record Dataset : Type 0 where
   -- K, the number of variables, and N, the number of observations
   pub k : ℕ
@@ -212,11 +212,11 @@ begins r f = sameAt (start (edition r)) f 0
 
 -- number 2's rule: the file begins as one of the editions does
 abbrev pub known : List ℕ → Bool
-known f = begins r113 f || (begins r114 f || begins r117 f)
+known f = some (λ r. begins r f) releases
 
 -- the edition of a known file
 abbrev pub releaseOf : List ℕ → Release
-releaseOf f = cond (begins r113 f) r113 (cond (begins r114 f) r114 r117)
+releaseOf f = first (λ r. begins r f) releases
 
 -- its numbers
 abbrev pub editionOf : List ℕ → Edition

@@ -1,7 +1,8 @@
 -- Editions: the numbers that tell their layouts apart, and their tags.
-use Prim.Native.Nat.{ℕ, zero, suc, _+_, _*_, _/_, _%_}
+use Prim.Native.Nat.{ℕ, zero, suc, _+_, _*_, _/_, _%_, _≤_}
 use mathlib.Core.List.{List, [], _∷_, _++_}
-use mathlib.Core.Bool.{Bool, true, false, cond}
+use mathlib.Core.Bool.{Bool, true, false, cond, _||_}
+use lib.Dec.{eqb}
 use Prim.Native.String.{String}
 use Prim.Native.String as Texts
 use Prim.Native.Char.{code}
@@ -31,7 +32,7 @@ pub record Edition : Type 0 where
 
 -- the editions that are read
 pub data Release : Type 0 where
-  r113 r114 r117 : Release
+  r113 r114 r115 r117 r118 : Release
 
 -- the numbers of each
 abbrev pub edition : Release → Edition
@@ -39,8 +40,41 @@ edition r113 =
     record { number = 113; tagged = false; nWidth = 4; labelMax = 80; labelLength = 1; nameWidth = 33; formatWidth = 12; varLabelWidth = 81; vWidth = 4; oWidth = 4; recordWidth = 4 }
 edition r114 =
     record { number = 114; tagged = false; nWidth = 4; labelMax = 80; labelLength = 1; nameWidth = 33; formatWidth = 49; varLabelWidth = 81; vWidth = 4; oWidth = 4; recordWidth = 4 }
+edition r115 =
+    record { number = 115; tagged = false; nWidth = 4; labelMax = 80; labelLength = 1; nameWidth = 33; formatWidth = 49; varLabelWidth = 81; vWidth = 4; oWidth = 4; recordWidth = 4 }
 edition r117 =
     record { number = 117; tagged = true; nWidth = 4; labelMax = 80; labelLength = 1; nameWidth = 33; formatWidth = 49; varLabelWidth = 81; vWidth = 4; oWidth = 4; recordWidth = 4 }
+edition r118 =
+    record { number = 118; tagged = true; nWidth = 8; labelMax = 320; labelLength = 2; nameWidth = 129; formatWidth = 57; varLabelWidth = 321; vWidth = 2; oWidth = 6; recordWidth = 8 }
+
+-- the list of them: what a file begins as, what a layout names and what is offered are sought here, from its first to its last
+abbrev pub releases : List Release
+releases = r113 ∷ r114 ∷ r115 ∷ r117 ∷ r118 ∷ []
+
+-- one of the list passes a test
+abbrev pub some : (Release → Bool) → List Release → Bool
+some p [] = false
+some p (r ∷ l) = p r || some p l
+
+-- the first that passes it; 118 where none does
+abbrev pub first : (Release → Bool) → List Release → Release
+first p [] = r118
+first p (r ∷ l) = cond (p r) r (first p l)
+
+-- n is the number of an edition that is read
+abbrev pub isRelease : ℕ → Bool
+isRelease n = some (λ r. eqb n (edition r .number)) releases
+
+-- the edition of the number n; 118 where it is none
+abbrev pub releaseBy : ℕ → Release
+releaseBy n = first (λ r. eqb n (edition r .number)) releases
+
+-- no text field of z is narrower than that of e
+pub record AsWide (e z : Edition) : Type 0 where
+  pub label : e .labelMax ≤ z .labelMax
+  pub names : e .nameWidth ≤ z .nameWidth
+  pub formats : e .formatWidth ≤ z .formatWidth
+  pub labels : e .varLabelWidth ≤ z .varLabelWidth
 
 -- ---- what follows from whether an edition is tagged
 

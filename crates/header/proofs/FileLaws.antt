@@ -1,20 +1,21 @@
 -- The header of a file whose edition and byte order `editions` has told: what the caller of `header` has and gets.
 use mathlib.Core.Path.{_≡_, sym, subst}
 use Prim.Native.Nat.{ℕ, _≤_}
+use native.Mathlib.Omega.{arith}
 use mathlib.Core.Bool.{Bool, true, cond}
 use mathlib.Core.List.{List}
 use lib.ListN.{length}
 use Rattle.format.specs.Number.{Order, orderBy}
 use Rattle.format.specs.Grammar.{Sect, sameAt}
 use Rattle.format.specs.Edition as Format
-use Rattle.format.specs.Edition.{edition, start}
+use Rattle.format.specs.Edition.{edition, releaseBy, start}
 use Rattle.format.specs.Header as Header
 use Rattle.format.specs.Header.{header}
 use Rattle.format.specs.Dta.{known, editionOf, isMsf, orderOf}
 use Rattle.editions.specs.declared.Edition.{Edition}
-use Rattle.editions.specs.Editions.{numbersOf, releaseBy}
+use Rattle.editions.specs.Editions.{numbersOf}
 use Rattle.editions.proofs.StartLaws.{number-known}
-use Rattle.editions.proofs.WidthLaws.{file-numbers, file-narrow, file-order}
+use Rattle.editions.proofs.WidthLaws.{file-numbers, file-widths, file-order}
 use Rattle.section.specs.Judged.{Judged}
 use Rattle.header.specs.declared.Head.{Head}
 use Rattle.header.specs.Heads.{Begun, Headed}
@@ -29,11 +30,11 @@ module _ (f : List ℕ) (n : ℕ) (h : n ≡ cond (known f) (editionOf f .number
   file-begun =
       let k = number-known f n h z in
       let g = file-numbers f n h z e q in
-      let w = file-narrow f n h z e q in
+      let w = file-widths f n h z e q in
       record {
-        n-small = w .n-width;
-        length-small = w .label-length;
-        label-small = w .label-max;
+        n-small = w .n-most;
+        length-small = omega (arith, w .length-most);
+        label-small = omega (arith, w .label-most);
         starts = subst (λ (x : Format.Edition). sameAt (start x) f 0 ≡ true) (sym g) (k .starts);
         room = subst (λ (x : Format.Edition). length (start x) ≤ length f) (sym g) (k .room);
       }

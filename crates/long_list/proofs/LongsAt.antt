@@ -8,7 +8,8 @@ use Rattle.format.specs.Number.{orderBy}
 use Rattle.format.specs.Data.{longRecord}
 use Rattle.format.specs.Dta.{verdict, releaseOf, datasetOf}
 use Rattle.writing.specs.Writes.{Stand}
-use Rattle.sources.proofs.PartReads.{longs-of, widths-of}
+use Rattle.editions.proofs.WidthLaws.{code-widths}
+use Rattle.sources.proofs.PartReads.{longs-of}
 use Rattle.long_list.specs.declared.Opening.{Opening}
 use Rattle.long_list.specs.Opens.{Opens}
 use Rattle.long_list.specs.Longs.{longsFrom, longsOf}
@@ -27,7 +28,7 @@ longs-at {f} {x} u O z =
     let s = O .parts z in
     record {
       accepted = o .accepted;
-      narrow = omega (arith, widths-of (x .e) (releaseOf f) (o .edition) .record-4);
+      narrow = omega (arith, code-widths (x .e) (releaseOf f) (o .edition) .record-most);
       stand = longs-of f u (x .e) (x .msf) o (x .source) s;
       told = λ i. longsFrom (o .edition i .recordWidth) (s .longs i) (datasetOf f .longStrings);
     }

@@ -6,13 +6,15 @@ use mathlib.Core.Bool.{Bool, true, false}
 use lib.Dec.{eqb}
 use borrow.Author.Tests.{ne-eqb, eqb-true}
 use Rattle.format.specs.Number.{Order, msf, lsf, orderBy}
-use Rattle.format.specs.Edition.{Edition, Release, r113, r114, r117, edition, orderMark}
+use Rattle.format.specs.Edition.{Edition, Release, edition, orderMark}
 use Rattle.format.specs.Dta as Format
 use Rattle.format.specs.Dta.{verdict, releaseOf, editionOf, orderOf, contents, layoutOf, noLayout}
 use Rattle.format.proofs.FileLaws.{layout-is, itself}
 use Rattle.checking.specs.declared.Checked.{Checked}
 use Rattle.checking.specs.Checks.{Checks, layoutBy}
-use Rattle.questions.specs.Readings.{none, got}
+use Rattle.questions.specs.Readings.{Try, none, got, bind}
+use Rattle.questions.specs.Ask.{orderIn}
+use Rattle.questions.proofs.ReadLaws.{release-in, order-in}
 use Rattle.reading.specs.declared.Opened as Code
 use Rattle.editions.specs.Editions.{numbersOf}
 use Rattle.reading.specs.Reads.{isMsf, openedBy, editionIn}
@@ -24,12 +26,9 @@ use Rattle.long_list.specs.Opens.{noSource, notOpened, openingOf, Opens}
 
 -- the marks of an edition and a byte order are read as those
 marks-back : (r : Release) (o : Order) → editionIn (edition r .number) (orderMark o) ≡ got (edition r, o)
-marks-back r113 msf = refl
-marks-back r113 lsf = refl
-marks-back r114 msf = refl
-marks-back r114 lsf = refl
-marks-back r117 msf = refl
-marks-back r117 lsf = refl
+marks-back r o =
+    ap (λ (t : Try Release). bind t λ s. bind (orderIn (orderMark o)) λ p. got (edition s, p)) (release-in r)
+    ∙ ap (λ (t : Try Order). bind t λ p. got (edition r, p)) (order-in o)
 
 module _ {f : List ℕ} {c : Checked} (C : Checks f c) (v : c .code ≡ 0) where
   accepted : verdict f ≡ 0

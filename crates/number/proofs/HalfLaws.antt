@@ -1,7 +1,7 @@
--- A number of twice the width from its two halves: read, and with its bytes in the other order.
+-- A number from its two parts, or halves: read, and with its bytes in the other order.
 use mathlib.Core.Path.{_≡_, refl, sym, ap, _∙_}
 use Prim.Native.Nat.{ℕ, zero, suc, _+_, _-_, _*_, _/_, _%_, _^_, _<_}
-use native.Mathlib.Nat.{add-zero, add-suc, mul-assoc, suc-mul, mul-le-mul-right, pow-zero, pow-suc, pow-succ', div-div-eq-div-mul, not-suc-le-zero}
+use native.Mathlib.Nat.{add-zero, add-suc, add-comm, mul-assoc, suc-mul, mul-le-mul-right, pow-zero, pow-suc, pow-succ', div-div-eq-div-mul, not-suc-le-zero}
 use native.Mathlib.Omega.{arith}
 use mathlib.Core.List.{List}
 use mathlib.Core.Bool.{Bool, true, false}
@@ -23,19 +23,23 @@ val-split d v (suc w) =
 pub number-byte : (f : List ℕ) (p r : ℕ) → r ≡ getD f p 0 → r < 256 → IsNumber lsf 1 f p r
 number-byte f p r e b = record { is = omega (arith, e, ap (λ (q : ℕ). getD f q 0) (add-zero p)); small = b }
 
--- a number of twice w bytes, least significant byte first
-pub number-halves : (w : ℕ) (f : List ℕ) (p a b r : ℕ) → IsNumber lsf w f p a → IsNumber lsf w f (p + w) b → r ≡ b * 256 ^ w + a → IsNumber lsf (w + w) f p r
-number-halves w f p a b r h k e =
+-- a number of v bytes and w after them, least significant byte first
+pub number-parts : (v w : ℕ) (f : List ℕ) (p a b r : ℕ) → IsNumber lsf v f p a → IsNumber lsf w f (p + v) b → r ≡ b * 256 ^ v + a → IsNumber lsf (w + v) f p r
+number-parts v w f p a b r h k e =
     record {
-      is = omega (arith, val-split (λ i. getD f (p + seat lsf (w + w) i) 0) w w, ap (λ (x : ℕ). x * 256 ^ w) (k .is ∙ high), h .is ∙ low);
-      small = rw (pow-add 256 w w) (omega (arith, h .small, mul-le-mul-right (256 ^ w) (k .small), suc-mul b (256 ^ w)));
+      is = omega (arith, val-split (λ i. getD f (p + seat lsf (w + v) i) 0) w v, ap (λ (x : ℕ). x * 256 ^ v) (k .is ∙ high), h .is ∙ low);
+      small = rw (pow-add 256 w v) (omega (arith, h .small, mul-le-mul-right (256 ^ v) (k .small), suc-mul b (256 ^ v)));
     }
   where
-    high : num lsf w f (p + w) ≡ val (λ i. getD f (p + seat lsf (w + w) i) 0) w
+    high : num lsf w f (p + v) ≡ val (λ i. getD f (p + seat lsf (w + v) i) 0) w
     high = val-same _ _ w λ i c. ap (λ (q : ℕ). getD f q 0) (omega arith)
 
-    low : num lsf w f p ≡ val (λ i. getD f (p + seat lsf (w + w) (w + i)) 0) w
-    low = val-same _ _ w λ i c. ap (λ (q : ℕ). getD f q 0) (omega arith)
+    low : num lsf v f p ≡ val (λ i. getD f (p + seat lsf (w + v) (w + i)) 0) v
+    low = val-same _ _ v λ i c. ap (λ (q : ℕ). getD f q 0) (omega arith)
+
+-- a number of twice w bytes
+pub number-halves : (w : ℕ) (f : List ℕ) (p a b r : ℕ) → IsNumber lsf w f p a → IsNumber lsf w f (p + w) b → r ≡ b * 256 ^ w + a → IsNumber lsf (w + w) f p r
+number-halves w = number-parts w w
 
 -- the last w digits, and the v digits before them
 digit-low : (v w n j : ℕ) → j < w → digit (v + w) n (v + j) ≡ digit w n j
@@ -55,20 +59,26 @@ digit-high v (suc w) n j b =
     rw (add-suc, pow-succ')
     (digit-front (v + w) n j (omega arith) ∙ digit-high v w (n / 256) j b ∙ ap (λ (m : ℕ). digit v m j) (div-div-eq-div-mul n 256 (256 ^ w)))
 
--- the halves of the bytes in the other order
-low : (w n : ℕ) → val (λ i. digit w n (seat lsf w i)) w ≡ val (λ i. digit (w + w) n (seat lsf (w + w) i)) w
-low w n =
-    val-same _ _ w λ i c. sym (digit-low w w n (w - suc i) (omega arith)) ∙ ap (digit (w + w) n) (omega arith)
+-- the parts of the bytes in the other order
+low : (v w n : ℕ) → val (λ i. digit v n (seat lsf v i)) v ≡ val (λ i. digit (v + w) n (seat lsf (v + w) i)) v
+low v w n =
+    rw (add-comm v w)
+    (val-same _ _ v λ i c. sym (digit-low w v n (v - suc i) (omega arith)) ∙ ap (digit (w + v) n) (omega arith))
 
-high : (w n : ℕ) → val (λ i. digit w (n / 256 ^ w) (seat lsf w i)) w ≡ val (λ i. digit (w + w) n (seat lsf (w + w) (w + i))) w
-high w n =
-    val-same _ _ w λ i c. sym (digit-high w w n (w - suc i) (omega arith)) ∙ ap (digit (w + w) n) (omega arith)
+high : (v w n : ℕ) → val (λ i. digit w (n / 256 ^ v) (seat lsf w i)) w ≡ val (λ i. digit (v + w) n (seat lsf (v + w) (v + i))) w
+high v w n =
+    rw (add-comm v w)
+    (val-same _ _ w λ i c. sym (digit-high w v n (w - suc i) (omega arith)) ∙ ap (digit (w + v) n) (omega arith))
+
+-- the last v bytes come first
+pub swapped-parts : (v w n a b r : ℕ) → a ≡ swapped v n → b ≡ swapped w (n / 256 ^ v) → r ≡ a * 256 ^ w + b → r ≡ swapped (v + w) n
+unfolding swapped
+swapped-parts v w n a b r h k e =
+    omega (arith, val-split (λ i. digit (v + w) n (seat lsf (v + w) i)) v w, ap (λ (x : ℕ). x * 256 ^ w) (h ∙ low v w n), k ∙ high v w n)
 
 -- the last half comes first
 pub swapped-halves : (w n a b r : ℕ) → a ≡ swapped w n → b ≡ swapped w (n / 256 ^ w) → r ≡ a * 256 ^ w + b → r ≡ swapped (w + w) n
-unfolding swapped
-swapped-halves w n a b r h k e =
-    omega (arith, val-split (λ i. digit (w + w) n (seat lsf (w + w) i)) w w, ap (λ (x : ℕ). x * 256 ^ w) (h ∙ low w n), k ∙ high w n)
+swapped-halves w = swapped-parts w w
 
 pub swapped-byte : (n : ℕ) → n % 256 ≡ swapped 1 n
 unfolding swapped

@@ -31,7 +31,7 @@ fn number_1(f: &[u8], p: usize) -> u64
     wide(f[p])
 }
 
-// The numbers of 2, 4 and 8 bytes at `p`, least significant byte first.
+// The numbers of 2, 4, 6 and 8 bytes at `p`, least significant byte first.
 fn number_2(f: &[u8], p: usize) -> u64
     requires { ⌜ p + 2 ≤ length (now f) ⌝ }
     ensures { λ r. ⌜ IsNumber lsf 2 (now (f .entry)) p r ⌝ }
@@ -46,6 +46,13 @@ fn number_4(f: &[u8], p: usize) -> u64
     number_2(f, p + 2) * 65536 + number_2(f, p)
 }
 
+fn number_6(f: &[u8], p: usize) -> u64
+    requires { ⌜ p + 6 ≤ length (now f) ⌝ }
+    ensures { λ r. ⌜ IsNumber lsf 6 (now (f .entry)) p r ⌝ }
+{
+    number_4(f, p + 2) * 65536 + number_2(f, p)
+}
+
 fn number_8(f: &[u8], p: usize) -> u64
     requires { ⌜ p + 8 ≤ length (now f) ⌝ }
     ensures { λ r. ⌜ IsNumber lsf 8 (now (f .entry)) p r ⌝ }
@@ -53,7 +60,7 @@ fn number_8(f: &[u8], p: usize) -> u64
     number_4(f, p + 4) * 4294967296 + number_4(f, p)
 }
 
-// `n` with its 2, 4 and 8 bytes in the other order.
+// `n` with its 2, 4, 6 and 8 bytes in the other order.
 fn swap_2(n: u64) -> u64
     ensures { λ r. ⌜ r ≡ swapped 2 n ⌝ }
 {
@@ -64,6 +71,12 @@ fn swap_4(n: u64) -> u64
     ensures { λ r. ⌜ r ≡ swapped 4 n ⌝ }
 {
     swap_2(n) * 65536 + swap_2(n / 65536)
+}
+
+fn swap_6(n: u64) -> u64
+    ensures { λ r. ⌜ r ≡ swapped 6 n ⌝ }
+{
+    swap_2(n) * 4294967296 + swap_4(n / 65536)
 }
 
 fn swap_8(n: u64) -> u64
@@ -109,6 +122,10 @@ pub fn number(f: &[u8], p: usize, w: usize, msf: bool) -> u64
             let n = number_4(f, p);
             ordered(n, swap_4(n), msf)
         }
+        6 => {
+            let n = number_6(f, p);
+            ordered(n, swap_6(n), msf)
+        }
         8 => {
             let n = number_8(f, p);
             ordered(n, swap_8(n), msf)
@@ -134,7 +151,7 @@ fn put_1(out: &mut [u8], n: u64, w: usize, i: usize, msf: bool)
     out[i] = digit_of(n, w, k);
 }
 
-// The 2, 4 and 8 bytes from byte `i` on of `n` as a number of `w` bytes, least significant byte first.
+// The 2, 4, 6 and 8 bytes from byte `i` on of `n` as a number of `w` bytes, least significant byte first.
 fn put_2(out: &mut [u8], n: u64, w: usize, i: usize)
     requires { ⌜ (i + 2 ≤ w) × (w ≤ 8) × (w ≤ length (now out)) ⌝ }
     ensures { λ _. ⌜ now (out .exit) ≡ sets (now (out .entry)) i (bytesFrom lsf w n i 2) ⌝ }
@@ -149,6 +166,14 @@ fn put_4(out: &mut [u8], n: u64, w: usize, i: usize)
 {
     put_2(out, n, w, i);
     put_2(out, n, w, i + 2);
+}
+
+fn put_6(out: &mut [u8], n: u64, w: usize, i: usize)
+    requires { ⌜ (i + 6 ≤ w) × (w ≤ 8) × (w ≤ length (now out)) ⌝ }
+    ensures { λ _. ⌜ now (out .exit) ≡ sets (now (out .entry)) i (bytesFrom lsf w n i 6) ⌝ }
+{
+    put_4(out, n, w, i);
+    put_2(out, n, w, i + 4);
 }
 
 fn put_8(out: &mut [u8], n: u64, w: usize, i: usize)
@@ -180,6 +205,7 @@ pub fn put_number(out: &mut [u8], n: u64, w: usize, msf: bool)
         1 => put_1(out, n, 1, 0, msf),
         2 => put_2(out, ordered(n, swap_2(n), msf), 2, 0),
         4 => put_4(out, ordered(n, swap_4(n), msf), 4, 0),
+        6 => put_6(out, ordered(n, swap_6(n), msf), 6, 0),
         8 => put_8(out, ordered(n, swap_8(n), msf), 8, 0),
         _ => put_any(out, n, w, msf),
     }

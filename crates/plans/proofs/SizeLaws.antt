@@ -25,54 +25,56 @@ use Rattle.editions.specs.declared.Edition as Code
 use Rattle.writing.specs.Writes.{Stand, Room}
 use Rattle.write_header.specs.Parts.{HeaderSize}
 use Rattle.write_strls.specs.Records.{RecordsSize}
-use Rattle.write_strls.proofs.RoomLaws.{sizes-less, stand-inside, room-less}
+use Rattle.write_strls.proofs.RoomLaws.{sizes-twice, stand-inside}
 use Rattle.write_labels.specs.Blocks.{BlocksSize}
 use Rattle.write_labels.proofs.BlockLaws.{frame, block-size, block-even}
 use Rattle.sources.specs.declared.Source.{Source}
 use Rattle.sources.specs.Sources.{Opened, Sourced, Known}
 use Rattle.sources.proofs.SourceLaws.{label-small, stamp-small}
-use Rattle.sources.proofs.PartReads.{Widths, widths-of, types-of, typed-of, rows-room, longs-of, blocks-of}
+use Rattle.format.proofs.EditionLaws.{Widths}
+use Rattle.editions.proofs.WidthLaws.{code-widths}
+use Rattle.sources.proofs.PartReads.{types-of, typed-of, rows-room, longs-of, blocks-of}
 
 -- a header is short
-head-bound : (t : Bool) (e : Edition) (o : Order) (h : Head) → length (h .1 .1 .0) ≤ 80 → length (h .1 .1 .1) ≤ 17 → e .nWidth ≤ 8 → e .labelLength ≤ 8 → e .labelMax ≤ 80
+head-bound : (t : Bool) (e : Edition) (o : Order) (h : Head) → length (h .1 .1 .0) ≤ 320 → length (h .1 .1 .1) ≤ 17 → e .nWidth ≤ 8 → e .labelLength ≤ 8 → e .labelMax ≤ 320
     → headerBy t e o .size h ≤ 65536
 unfolding oldHeader newHeader newFacts oldStamp counted between tag
 head-bound true e msf h a b c d l = omega arith
 head-bound true e lsf h a b c d l = omega arith
 head-bound false e o h a b c d l = omega arith
 
--- blocks are at most twice as long in another form
-module _ (t u : Bool) (o z : Order) (w v : ℕ) (b : v ≤ w) (c : 5 ≤ w) where
-  frames : frame u v ≤ frame t w + frame t w
+-- blocks are at most four times as long in another form
+module _ (t u : Bool) (o z : Order) (w v : ℕ) (b : v ≤ 129) (c : 33 ≤ w) where
+  frames : frame u v ≤ 4 * frame t w
   frames = go t u
     where
-      go : (x y : Bool) → frame y v ≤ frame x w + frame x w
+      go : (x y : Bool) → frame y v ≤ 4 * frame x w
       go true true = omega arith
       go true false = omega arith
       go false true = omega arith
       go false false = omega arith
 
-  blocks-twice : (l : List LabelBlock) → AllRight (block t o w) l → sizes (block u z v) l ≤ sizes (block t o w) l + sizes (block t o w) l
-  blocks-twice [] r = omega arith
-  blocks-twice (x ∷ l) r =
-      omega (arith, block-size u z v x (block-even t o w x (r .0)), block-size t o w x (block-even t o w x (r .0)), frames, blocks-twice l (r .1))
+  blocks-four : (l : List LabelBlock) → AllRight (block t o w) l → sizes (block u z v) l ≤ 4 * sizes (block t o w) l
+  blocks-four [] r = omega arith
+  blocks-four (x ∷ l) r =
+      omega (arith, block-size u z v x (block-even t o w x (r .0)), block-size t o w x (block-even t o w x (r .0)), frames, blocks-four l (r .1))
 
 module _ (f : List ℕ) (u : Bytes f) (e : Code.Edition) (m : Bool) (op : Opened f e m) (s : Source) (S : Sourced f s) (to : Code.Edition) (K : Known to) where
   abbrev d : Dataset
   d = datasetOf f
 
-  W : Widths e
-  W = widths-of e (releaseOf f) (op .edition)
+  W : Widths (numbersOf e)
+  W = code-widths e (releaseOf f) (op .edition)
 
-  X : Widths to
-  X = widths-of to (K .release) (K .is)
+  X : Widths (numbersOf to)
+  X = code-widths to (K .release) (K .is)
 
   pub file-short : length f ≤ 2147483647
   file-short = sound f u (op .accepted) .short
 
   -- label and stamp
-  pub label-80 : s .llen ≤ 80
-  label-80 = omega (arith, S .label .long, label-small f u (op .accepted), ap (λ (x : Edition). x .labelMax) (op .edition), W .label-80)
+  pub label-short : s .llen ≤ 320
+  label-short = omega (arith, S .label .long, label-small f u (op .accepted), ap (λ (x : Edition). x .labelMax) (op .edition), W .label-most)
 
   pub stamp-17 : s .slen ≤ 17
   stamp-17 = omega (arith, S .stamp .long, stamp-small f u (op .accepted))
@@ -86,7 +88,7 @@ module _ (f : List ℕ) (u : Bytes f) (e : Code.Edition) (m : Bool) (op : Opened
         omega (
           arith,
           head-size msf,
-          head-bound (to .tagged) (numbersOf to) msf (headOf d) (omega (arith, label-80, S .label .long)) (omega (arith, stamp-17, S .stamp .long)) (omega (arith, X .n-4)) (omega (arith, X .length-1)) (omega (arith, X .label-80)),
+          head-bound (to .tagged) (numbersOf to) msf (headOf d) (omega (arith, label-short, S .label .long)) (omega (arith, stamp-17, S .stamp .long)) (omega (arith, X .n-most)) (omega (arith, X .length-most)) (omega (arith, X .label-most)),
         )
 
   -- rows
@@ -96,35 +98,40 @@ module _ (f : List ℕ) (u : Bytes f) (e : Code.Edition) (m : Bool) (op : Opened
         h ∙ sym (width-is (e .tagged) (orderBy m) f (s .types) v w q (s .k) (typed-of f u e m op s S .right)) ∙ ap (rowWidth (cellWidth v w)) (types-of f u e m op s S)
 
     pub rows-size : s .n * r ≡ d .n * rowWidth (cellWidth (to .«v_width») (to .«o_width»)) (d .varTypes)
-    rows-size = λ i. S .observations i * wide (to .«v_width») (to .«o_width») (omega (arith, X .v-4, X .o-4)) i
+    rows-size = λ i. S .observations i * wide (to .«v_width») (to .«o_width») (omega (arith, X .eight)) i
 
     pub rows-small : s .n * r ≤ 2147483647
     rows-small =
-        let q : s .n * r ≡ d .n * rowWidth (cellWidth (e .«v_width») (e .«o_width»)) (d .varTypes) = λ i. S .observations i * wide (e .«v_width») (e .«o_width») (omega (arith, W .v-4, W .o-4)) i in
+        let q : s .n * r ≡ d .n * rowWidth (cellWidth (e .«v_width») (e .«o_width»)) (d .varTypes) = λ i. S .observations i * wide (e .«v_width») (e .«o_width») (omega (arith, W .eight)) i in
         omega (arith, q, rows-room f u e m op s S, file-short)
 
   -- long strings
-  longs-narrow : to .«record_width» ≤ e .«record_width»
-  longs-narrow = omega (arith, W .record-4, X .record-4)
+  longs-narrow : to .«record_width» ≤ 12
+  longs-narrow = omega (arith, X .record-most)
 
   pub longs-room : Room (longRecord (e .tagged) (orderBy m) (e .«record_width»)) (longRecord (e .tagged) (orderBy m) (to .«record_width»)) f (s .longs) (s .longsend) 18446744073709551615
-  longs-room = room-less (e .tagged) (e .tagged) (orderBy m) (orderBy m) (e .«record_width») (to .«record_width») f (s .longs) (s .longsend) 18446744073709551615 (d .longStrings) (longs-of f u e m op s S) longs-narrow (omega (arith, file-short))
+  longs-room =
+      record {
+        list = d .longStrings;
+        stand = longs-of f u e m op s S;
+        room = omega (arith, file-short, sizes-twice (e .tagged) (e .tagged) (orderBy m) (orderBy m) (e .«record_width») (to .«record_width») longs-narrow (d .longStrings), stand-inside (e .tagged) (orderBy m) (e .«record_width») f (s .longs) (s .longsend) (d .longStrings) (longs-of f u e m op s S));
+      }
 
   pub longs-widths : (e .«record_width» ≤ 8) × (to .«record_width» ≤ 8)
-  longs-widths = (omega (arith, W .record-4), omega (arith, X .record-4))
+  longs-widths = (omega (arith, W .record-most), omega (arith, X .record-most))
 
   module _ (r : ℕ) (h : RecordsSize (e .tagged) (orderBy m) (e .«record_width») (to .«record_width») f (s .longs) (s .longsend) r) where
     pub longs-size : (o : Order) → r ≡ sizes (longRecord (to .tagged) o (to .«record_width»)) (d .longStrings)
     longs-size o = h .all (to .tagged) o .all (d .longStrings) (longs-of f u e m op s S)
 
-    pub longs-small : r ≤ 2147483647
+    pub longs-small : r ≤ 4294967294
     longs-small =
         omega (
           arith,
           longs-size msf,
           file-short,
           stand-inside (e .tagged) (orderBy m) (e .«record_width») f (s .longs) (s .longsend) (d .longStrings) (longs-of f u e m op s S),
-          sizes-less (e .tagged) (to .tagged) (orderBy m) msf (e .«record_width») (to .«record_width») longs-narrow (d .longStrings),
+          sizes-twice (e .tagged) (to .tagged) (orderBy m) msf (e .«record_width») (to .«record_width») longs-narrow (d .longStrings),
         )
 
   -- label blocks
@@ -136,20 +143,20 @@ module _ (f : List ℕ) (u : Bytes f) (e : Code.Edition) (m : Bool) (op : Opened
   blocks-room = record { list = d .labelBlocks; stand = blocks-of f u e m op s S; room = omega (arith, blocks-inside) }
 
   pub blocks-widths : (e .«name_width» ≤ 255) × (to .«name_width» ≤ 255)
-  blocks-widths = (omega (arith, W .name-33), omega (arith, X .name-33))
+  blocks-widths = (omega (arith, W .name-most), omega (arith, X .name-most))
 
   module _ (r : ℕ) (h : BlocksSize (e .tagged) (orderBy m) (e .«name_width») (to .tagged) (to .«name_width») f (s .blocks) (s .blocksend) r) where
     pub blocks-size : (o : Order) → r ≡ sizes (block (to .tagged) o (to .«name_width»)) (d .labelBlocks)
     blocks-size o = h .inOrder o .all (d .labelBlocks) (blocks-of f u e m op s S)
 
-    pub blocks-small : r ≤ 4294967294
+    pub blocks-small : r ≤ 8589934588
     blocks-small =
         omega (
           arith,
           blocks-size msf,
           file-short,
           blocks-inside,
-          blocks-twice (e .tagged) (to .tagged) (orderBy m) msf (e .«name_width») (to .«name_width») (omega (arith, W .name-33, X .name-33)) (omega (arith, W .name-33)) (d .labelBlocks) (blocks-of f u e m op s S .right),
+          blocks-four (e .tagged) (to .tagged) (orderBy m) msf (e .«name_width») (to .«name_width») (omega (arith, X .name-most)) (omega (arith, W .name-least)) (d .labelBlocks) (blocks-of f u e m op s S .right),
         )
 
 pub code-small : (t : Bool) → codeWidth t ≤ 2

@@ -27,8 +27,8 @@ pub record Sized (f : List ℕ) (to : Code.Edition) (r : Sizes) : Type 0 where
 pub record Small (r : Sizes) : Type 0 where
   pub head : r .head ≤ 65536
   pub rows : r .rows ≤ 2147483647
-  pub longs : r .longs ≤ 2147483647
-  pub blocks : r .blocks ≤ 4294967294
+  pub longs : r .longs ≤ 4294967294
+  pub blocks : r .blocks ≤ 8589934588
 
 -- the sizes of the thirteen parts, tags included, with k variables
 unfoldable pub sizesBy : Code.Edition → ℕ → Sizes → List ℕ

@@ -23,16 +23,16 @@ pub struct Plan {
 
 // `k` fields of `w` bytes.
 fn list_bytes(k: usize, w: usize) -> usize
-    requires { ⌜ (k ≤ 32768) × (w ≤ 81) ⌝ }
-    ensures { λ r. ⌜ (r ≡ k * w) × (r ≤ 2654208) ⌝ }
+    requires { ⌜ (k ≤ 32768) × (w ≤ 321) ⌝ }
+    ensures { λ r. ⌜ (r ≡ k * w) × (r ≤ 10518528) ⌝ }
 {
     k * w
 }
 
 // Where what follows a part at `p` stands, which has `n` bytes and, where `there`, tags of `tags` bytes.
 fn next(p: u64, there: bool, tags: u64, n: usize) -> u64
-    requires { ⌜ (p ≤ 1099511627776) × (tags ≤ 200) × (n ≤ 4294967294) ⌝ }
-    ensures { λ r. ⌜ (r ≡ p + (cond there tags 0 + n)) × (r ≤ p + 4294967494) ⌝ }
+    requires { ⌜ (p ≤ 1099511627776) × (tags ≤ 200) × (n ≤ 8589934588) ⌝ }
+    ensures { λ r. ⌜ (r ≡ p + (cond there tags 0 + n)) × (r ≤ p + 8589934788) ⌝ }
 {
     if there {
         return p + (tags + n as u64);

@@ -50,8 +50,8 @@ refusals =
     ∷ asks "observation 0" [] (lay 114 1 2 3 zeros) (askCell 1 0) (refused 16)
     ∷ asks "observation N + 1" [] (lay 114 1 2 3 zeros) (askCell 1 4) (refused 16)
     ∷ asks "observation N, which is not there" [] (lay 114 1 2 3 zeros) (askCell 1 3) (refused 17)
-    ∷ asks "16 before an unknown edition" [] (lay 115 1 2 3 zeros) (askName 3) (refused 16)
-    ∷ asks "an unknown edition" [] (lay 115 1 2 3 zeros) askEdition (refused 17)
+    ∷ asks "16 before an unknown edition" [] (lay 116 1 2 3 zeros) (askName 3) (refused 16)
+    ∷ asks "an unknown edition" [] (lay 116 1 2 3 zeros) askEdition (refused 17)
     ∷ asks "an unknown byte order" [] (lay 114 3 2 3 zeros) askK (refused 17)
     ∷ asks "byte order 0" [] (lay 114 0 2 3 zeros) askOrder (refused 17)
     ∷ asks "the layout's edition" [] (lay 117 2 2 3 zeros) askEdition (count 117)
@@ -243,6 +243,40 @@ longs =
 longs-hold : AllHold longs
 unfolding longs answerOf
 longs-hold = (refl, (refl, (refl, (refl, (refl, (refl, (refl, (refl, (refl, tt)))))))))
+
+-- ---- 115, and the widths of 118: one strL variable, its type at 16, its cell at 18, records from 26 on
+
+abbrev longs-118 : ℕ → Layout
+longs-118 z = lay 118 1 1 1 (0 ∷ 0 ∷ 0 ∷ 0 ∷ 0 ∷ 0 ∷ 0 ∷ 0 ∷ 0 ∷ 12 ∷ 19 ∷ z ∷ 0 ∷ 0 ∷ [])
+
+-- the cell of v = 1, and of o = 1 with the byte x five places above
+abbrev linked-118 : ℕ → List ℕ
+linked-118 x = replicate 16 9 ++ 128 ∷ 0 ∷ 0 ∷ 1 ∷ x ∷ 0 ∷ 0 ∷ 0 ∷ 0 ∷ 1 ∷ []
+
+-- the record of that cell with x = 1, with two bytes: 22 bytes
+abbrev one-118 : List ℕ
+one-118 = ascii "GSO" ++ 0 ∷ 0 ∷ 0 ∷ 1 ∷ 0 ∷ 0 ∷ 1 ∷ 0 ∷ 0 ∷ 0 ∷ 0 ∷ 1 ∷ 130 ∷ 0 ∷ 0 ∷ 0 ∷ 2 ∷ 65 ∷ 0 ∷ []
+
+wide-rows : List Row
+wide-rows =
+    asks "115 is read as 114 is" (replicate 10 9 ++ ascii "ab" ++ 0 ∷ []) (lay 115 1 0 0 zeros) askLabel (part 10 2)
+    ∷ asks "119 is not read" (replicate 400 0) (lay 119 1 1 0 zeros) askLabel (refused 17)
+    ∷ asks "label: its length in 2 bytes" (replicate 98 9 ++ 1 ∷ 1 ∷ replicate 257 65) (lay 118 1 0 0 zeros) askLabel (part 100 257)
+    ∷ asks "label: .. in the file's byte order" (replicate 98 9 ++ 1 ∷ 0 ∷ 65 ∷ []) (lay 118 2 0 0 zeros) askLabel (part 100 1)
+    ∷ asks "label, a byte short" (replicate 98 9 ++ 1 ∷ 1 ∷ replicate 256 65) (lay 118 1 0 0 zeros) askLabel (refused 17)
+    ∷ asks "stamp: its length in 1 byte" (replicate 98 9 ++ 0 ∷ 2 ∷ 7 ∷ 7 ∷ replicate 19 9 ++ 1 ∷ 65 ∷ []) (lay 118 1 0 0 zeros) askStamp (part 122 1)
+    ∷ asks "name 2 stands 129 bytes after name 1" (replicate 10 9 ++ replicate 129 0 ++ 65 ∷ 0 ∷ []) (lay 118 1 2 0 zeros) (askName 2) (part 139 1)
+    ∷ asks "format 2 stands 57 bytes after format 1" (replicate 9 9 ++ replicate 57 0 ++ ascii "%9s" ++ 0 ∷ []) (lay 118 1 2 0 zeros) (askFormat 2) (part 66 3)
+    ∷ asks "label-set name 2" (replicate 19 9 ++ replicate 129 0 ++ 65 ∷ 0 ∷ []) (lay 118 1 2 0 zeros) (askSet 2) (part 148 1)
+    ∷ asks "variable label 2" (replicate 17 9 ++ replicate 321 0 ++ 65 ∷ 0 ∷ []) (lay 118 1 2 0 zeros) (askVarLabel 2) (part 338 1)
+    ∷ asks "a reference: v in 2 bytes, o in 6" (linked-118 1 ++ one-118) (longs-118 56) (askCell 1 1) (Ask.cell (reference 1 1099511627777))
+    ∷ asks "its record: v in 4 bytes, o in 8" (linked-118 1 ++ one-118) (longs-118 56) (askLong 1 1) (long 130 46 2)
+    ∷ asks "o differs in a high byte" (linked-118 2 ++ one-118) (longs-118 56) (askLong 1 1) (refused 17)
+    ∷ []
+
+wide-hold : AllHold wide-rows
+unfolding wide-rows answerOf
+wide-hold = (refl, (refl, (refl, (refl, (refl, (refl, (refl, (refl, (refl, (refl, (refl, (refl, (refl, tt)))))))))))))
 
 -- ---- an accepted file with its own layout: P14
 

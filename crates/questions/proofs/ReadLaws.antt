@@ -11,13 +11,14 @@ use borrow.Author.Tests.{le-leb, leb-true, ltb-true}
 use Rattle.format.specs.Slot.{byte, Fits}
 use Rattle.format.specs.Number.{Order, msf, lsf, num, numSlots}
 use Rattle.format.specs.Grammar.{textAt, textSlots}
-use Rattle.format.specs.Edition.{Release, r113, r114, r117, edition, orderMark}
+use Rattle.format.specs.Edition.{Release, edition, releaseBy, orderMark}
 use Rattle.format.specs.Dta.{Layout}
 use Rattle.format.proofs.SlotLaws.{fits-bound, length-tab}
 use Rattle.format.proofs.NumberLaws.{num-read}
 use Rattle.format.proofs.Good.{and-left, and-right, text-length}
-use Rattle.questions.specs.Readings.{got, room, numberIn, textNeeds, textIn}
-use Rattle.questions.specs.Ask.{Question, refused, slice, inRange, among, orRefused, answerIn, answerOf}
+use Rattle.format.proofs.EditionLaws.{number-read, number-back}
+use Rattle.questions.specs.Readings.{Try, none, got, bind, room, numberIn, textNeeds, textIn}
+use Rattle.questions.specs.Ask.{Question, refused, slice, releaseIn, orderIn, inRange, among, orRefused, answerIn, answerOf}
 
 -- ---- numbers
 
@@ -68,15 +69,20 @@ bytes-at (x ∷ l) f p m =
 
 -- ---- 16 and 17
 
+-- the marks of an edition and of a byte order are read as those
+pub release-in : (r : Release) → releaseIn (edition r .number) ≡ got r
+release-in r = ap (λ (b : Bool). cond b (got (releaseBy (edition r .number))) none) (number-read r) ∙ ap got (number-back r)
+
+pub order-in : (o : Order) → orderIn (orderMark o) ≡ got o
+order-in msf = refl
+order-in lsf = refl
+
 pub answer-in : (r : Release) (o : Order) (f : List ℕ) (l : Layout) (q : Question) → l .release ≡ edition r .number → l .order ≡ orderMark o
     → answerOf f l q ≡ cond (inRange l q) (orRefused (answerIn (edition r) o f l q)) (refused 16)
 unfolding answerOf
-answer-in r113 msf f l q a b = rw (a, b)
-answer-in r113 lsf f l q a b = rw (a, b)
-answer-in r114 msf f l q a b = rw (a, b)
-answer-in r114 lsf f l q a b = rw (a, b)
-answer-in r117 msf f l q a b = rw (a, b)
-answer-in r117 lsf f l q a b = rw (a, b)
+answer-in r o f l q a b =
+    ap (λ (t : Try Release). cond (inRange l q) (orRefused (bind t λ s. bind (orderIn (l .order)) λ p. answerIn (edition s) p f l q)) (refused 16)) (ap releaseIn a ∙ release-in r)
+    ∙ ap (λ (t : Try Order). cond (inRange l q) (orRefused (bind t λ p. answerIn (edition r) p f l q)) (refused 16)) (ap orderIn b ∙ order-in o)
 
 pub among-below : (i k : ℕ) → among i k ≡ true → i - 1 < k
 among-below i k h = omega (arith, ltb-true 0 i (and-left (ltb 0 i) (leb i k) h), leb-true i k (and-right (ltb 0 i) (leb i k) h))

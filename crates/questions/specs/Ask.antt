@@ -7,7 +7,7 @@ use lib.Dec.{eqb, leb, ltb}
 use lib.IntN.{ℤ}
 use Rattle.format.specs.Number.{Order, msf, lsf}
 use Rattle.format.specs.Grammar.{rowWidth, textAt}
-use Rattle.format.specs.Edition.{Edition, Release, r113, r114, r117, edition, codeWidth, opening, closing, taggedStart, orderText, n-byteorder, n-K, n-N, n-label, n-timestamp, n-variable-types, n-varnames, n-sortlist, n-formats, n-value-label-names, n-variable-labels, n-data, n-strls, n-value-labels, n-lbl}
+use Rattle.format.specs.Edition.{Edition, Release, edition, isRelease, releaseBy, codeWidth, opening, closing, taggedStart, orderText, n-byteorder, n-K, n-N, n-label, n-timestamp, n-variable-types, n-varnames, n-sortlist, n-formats, n-value-label-names, n-variable-labels, n-data, n-strls, n-value-labels, n-lbl}
 use Rattle.format.specs.Variables.{VarType, textType, strLType, byteType, intType, longType, floatType, doubleType, typeBy, hasType, nonempty}
 use Rattle.format.specs.Data.{cellWidth}
 use Rattle.format.specs.Cells.{Says, whole, single, double, letter, between, outside, words, reference, saysAt, Key, nothing, seeks, keyOf}
@@ -86,7 +86,7 @@ shown f (long k p n) = slice f p n
 
 -- an edition that is read
 abbrev pub releaseIn : ℕ → Try Release
-releaseIn n = cond (eqb n 113) (got r113) (cond (eqb n 114) (got r114) (cond (eqb n 117) (got r117) none))
+releaseIn n = cond (isRelease n) (got (releaseBy n)) none
 
 -- a byte order
 abbrev pub orderIn : ℕ → Try Order

@@ -10,17 +10,17 @@ use lib.Dec.{eqb, leb, ltb}
 use borrow.Author.Tests.{le-leb, lt-leb, leb-true, leb-false, lt-ltb, le-ltb, ltb-true, eqb-true, eqb-false}
 use Rattle.format.specs.Number.{Order, orderBy, num}
 use Rattle.format.specs.Grammar.{textAt}
-use Rattle.format.specs.Edition.{Edition, Release, edition, r113, r114, r117}
+use Rattle.format.specs.Edition.{Edition, Release, edition, isRelease, releaseBy}
 use Rattle.format.proofs.Good.{and-left, and-right}
 use Rattle.number.specs.Numbers.{IsNumber}
 use Rattle.text.specs.Texts.{IsTextLength}
 use Rattle.text.proofs.TextLaws.{text-bytes}
 use Rattle.editions.specs.declared.Edition as Code
-use Rattle.editions.specs.Editions.{numbersOf, editionBy, releaseBy}
+use Rattle.editions.specs.Editions.{numbersOf, editionBy}
 use Rattle.questions.specs.Readings.{Try, none, got, bind, room, numberIn, textNeeds, textIn}
 use Rattle.questions.specs.Ask.{releaseIn, orderIn}
 use Rattle.reading.specs.declared.Read.{Read}
-use Rattle.reading.specs.Reads.{readBy, noRead, NumberRead, lengthIn, placeIn, isRelease, isOrder, isMsf, editionIn, openedBy}
+use Rattle.reading.specs.Reads.{readBy, noRead, NumberRead, lengthIn, placeIn, isOrder, isMsf, editionIn, openedBy}
 
 -- ---- what a reading says
 
@@ -239,23 +239,18 @@ module _ (f : List ℕ) (p : ℕ) where
 
 -- ---- editions
 
+-- an edition that is read, and one that isn't
+release-opens : (n : ℕ) (b : Bool) → isRelease n ≡ b → releaseIn n ≡ cond b (got (releaseBy n)) none
+release-opens n b h = ap (λ (x : Bool). cond x (got (releaseBy n)) none) h
+
 -- the edition and the order of a layout, where both are read
 pub edition-opens : (n x : ℕ) → isRelease n ≡ true → isOrder x ≡ true → editionIn n x ≡ got (edition (releaseBy n), orderBy (eqb x 1))
-edition-opens n x h k = go (eqb n 113) refl (eqb n 114) refl (eqb n 117) refl
+edition-opens n x h k = ap (λ (t : Try Release). bind t λ r. bind (orderIn x) λ o. got (edition r, o)) (release-opens n true h) ∙ by (eqb x 1) refl (eqb x 2) refl
   where
-    order-is : (a : Edition) → bind {B = Edition × Order} (orderIn x) (λ o. got (a, o)) ≡ got (a, orderBy (eqb x 1))
-    order-is a = by (eqb x 1) refl (eqb x 2) refl
-      where
-        by : (b : Bool) → eqb x 1 ≡ b → (d : Bool) → eqb x 2 ≡ d → bind {B = Edition × Order} (orderIn x) (λ o. got (a, o)) ≡ got (a, orderBy (eqb x 1))
-        by true i d j = rw i
-        by false i true j = rw (i, j)
-        by false i false j = absurd (false≢true ((rw (i, j) refl) ∙ k))
-
-    go : (a : Bool) → eqb n 113 ≡ a → (b : Bool) → eqb n 114 ≡ b → (d : Bool) → eqb n 117 ≡ d → editionIn n x ≡ got (edition (releaseBy n), orderBy (eqb x 1))
-    go true i b j d y = rw i (order-is (edition r113))
-    go false i true j d y = rw (i, j) (order-is (edition r114))
-    go false i false j true y = rw (i, j, y) (order-is (edition r117))
-    go false i false j false y = absurd (false≢true ((rw (i, j, y) refl) ∙ h))
+    by : (b : Bool) → eqb x 1 ≡ b → (d : Bool) → eqb x 2 ≡ d → bind {B = Edition × Order} (orderIn x) (λ o. got (edition (releaseBy n), o)) ≡ got (edition (releaseBy n), orderBy (eqb x 1))
+    by true i d j = rw i
+    by false i true j = rw (i, j)
+    by false i false j = absurd (false≢true ((rw (i, j) refl) ∙ k))
 
 -- .. as the code has them
 pub opened-is : (n x : ℕ) → isRelease n ≡ true → isOrder x ≡ true → (e : Code.Edition) → numbersOf e ≡ edition (releaseBy n)
@@ -269,13 +264,7 @@ opened-is n x h k e q =
     order-back false = refl
 
 pub edition-shut : (n x : ℕ) → isRelease n ≡ false → editionIn n x ≡ none
-edition-shut n x h = go (eqb n 113) refl (eqb n 114) refl (eqb n 117) refl
-  where
-    go : (a : Bool) → eqb n 113 ≡ a → (b : Bool) → eqb n 114 ≡ b → (d : Bool) → eqb n 117 ≡ d → editionIn n x ≡ none
-    go true i b j d y = absurd (false≢true (sym h ∙ rw i))
-    go false i true j d y = absurd (false≢true (sym h ∙ rw (i, j)))
-    go false i false j true y = absurd (false≢true (sym h ∙ rw (i, j, y)))
-    go false i false j false y = rw (i, j, y)
+edition-shut n x h = ap (λ (t : Try Release). bind t λ r. bind (orderIn x) λ o. got (edition r, o)) (release-opens n false h)
 
 pub order-shut : (n x : ℕ) → isOrder x ≡ false → editionIn n x ≡ none
 order-shut n x h = by (eqb x 1) refl (eqb x 2) refl (releaseIn n)
@@ -285,16 +274,6 @@ order-shut n x h = by (eqb x 1) refl (eqb x 2) refl (releaseIn n)
     by false i true j r = absurd (false≢true (sym h ∙ rw (i, j)))
     by false i false j none = refl
     by false i false j (got r) = rw (i, j)
-
--- an edition that is read has a small number
-pub release-small : (n : ℕ) → isRelease n ≡ true → n < 256
-release-small n h = go (eqb n 113) refl (eqb n 114) refl (eqb n 117) refl
-  where
-    go : (a : Bool) → eqb n 113 ≡ a → (b : Bool) → eqb n 114 ≡ b → (d : Bool) → eqb n 117 ≡ d → n < 256
-    go true i b j d y = omega (arith, eqb-true n 113 i)
-    go false i true j d y = omega (arith, eqb-true n 114 j)
-    go false i false j true y = omega (arith, eqb-true n 117 y)
-    go false i false j false y = absurd (false≢true ((rw (i, j, y) refl) ∙ h))
 
 -- two numbers below 2^32 have a product of 64 bits
 pub product-small : (i w : ℕ) → (ltb i 4294967296 && ltb w 4294967296) ≡ true → i * w ≤ 18446744065119617025

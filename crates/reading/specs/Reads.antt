@@ -36,10 +36,6 @@ lengthIn w f p = bind (textIn w f p) λ t. got (length t)
 abbrev pub placeIn : List ℕ → ℕ → Try ℕ
 placeIn f p = cond (leb p (length f)) (got p) none
 
--- an edition that is read
-abbrev pub isRelease : ℕ → Bool
-isRelease n = eqb n 113 || (eqb n 114 || eqb n 117)
-
 -- a byte order
 abbrev pub isOrder : ℕ → Bool
 isOrder n = eqb n 1 || eqb n 2

@@ -6,7 +6,7 @@ ghost use lib.ListN.{length};
 ghost use lib.Dec.{leb, ltb};
 ghost use Rattle.format.specs.Number.{orderBy};
 ghost use Rattle.questions.specs.Ask.{among};
-ghost use Rattle.reading.specs.Reads.{readBy, noRead, NumberRead, lengthIn, placeIn, isRelease, isOrder, notOpened, openedBy, editionIn};
+ghost use Rattle.reading.specs.Reads.{readBy, noRead, NumberRead, lengthIn, placeIn, isOrder, notOpened, openedBy, editionIn};
 
 // What a reading says: a number, where all that it needs is in the file.
 pub struct Read {
@@ -117,18 +117,6 @@ pub fn place_in(f: &[u8], start: u64, gap: u64, index: u64, width: u64) -> Read
     no_read()
 }
 
-// Whether `number` is an edition that is read.
-fn is_release(number: u64) -> bool
-    ensures { λ r. ⌜ r ≡ isRelease number ⌝ }
-{
-    match number {
-        113 => true,
-        114 => true,
-        117 => true,
-        _ => false,
-    }
-}
-
 // Whether `order` is a byte order.
 fn is_order(order: u64) -> bool
     ensures { λ r. ⌜ r ≡ isOrder order ⌝ }
@@ -167,7 +155,7 @@ fn not_opened() -> Opened
 pub fn edition_in(number: u64, order: u64) -> Opened
     ensures { λ r. ⌜ r ≡ openedBy (editionIn number order) ⌝ }
 {
-    if !is_release(number) {
+    if !editions::is_release(number) {
         return not_opened();
     }
     if !is_order(order) {
@@ -176,7 +164,7 @@ pub fn edition_in(number: u64, order: u64) -> Opened
     Opened {
         there: true,
         msf: order == 1,
-        e: editions::numbers_of(number as u8),
+        e: editions::numbers_of(number),
     }
 }
 

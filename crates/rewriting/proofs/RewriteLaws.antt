@@ -10,13 +10,13 @@ use borrow.Author.Tests.{eqb-true, eqb-false, eq-eqb, ne-eqb, leb-true, leb-fals
 use Rattle.format.specs.Slot.{Bytes}
 use Rattle.format.specs.Number.{Order, msf, lsf, orderBy}
 use Rattle.format.specs.Grammar.{Sect, also, unless}
-use Rattle.format.specs.Edition.{Edition, Release, r113, r114, r117, edition, orderMark}
+use Rattle.format.specs.Edition.{Edition, edition, isRelease, releaseBy, orderMark}
 use Rattle.format.specs.Dta as Format
-use Rattle.format.specs.Dta.{Dataset, file, verdict, releaseOf, editionOf, orderOf, contents, datasetOf, layoutOf, positions, partSizes, written, holds, allTypes, allShorter, lengthMax}
+use Rattle.format.specs.Dta.{Dataset, file, verdict, releaseOf, editionOf, orderOf, contents, datasetOf, layoutOf, positions, partSizes, written, holds, allTypes, allShorter, blockNames, lengthMax}
 use Rattle.format.proofs.FileLaws.{layout-is, itself, written-length}
 use Rattle.format.proofs.PartLaws.{size-total}
-use Rattle.format.proofs.HoldsLaws.{holds-if}
-use Rattle.editions.specs.Editions.{numbersOf, releaseBy}
+use Rattle.format.proofs.EditionLaws.{number-back}
+use Rattle.editions.specs.Editions.{numbersOf}
 use Rattle.editions.specs.declared.Edition as Code
 use Rattle.checking.specs.declared.Layout.{Layout}
 use Rattle.checking.specs.declared.Checked.{Checked}
@@ -26,6 +26,7 @@ use Rattle.sources.specs.Sources.{Own, Opened, Known, Holding}
 use Rattle.plans.specs.declared.Plan.{Plan}
 use Rattle.plans.specs.Plans.{Planned}
 use Rattle.rewriting.specs.declared.Rewritten.{Rewritten}
+use Rattle.rewriting.specs.Held.{heldIn}
 use Rattle.rewriting.specs.Rewriting.{offered, editionTo, orderTo, held, rewritten, rewriteCode, outputOf, lengthOf, Rewrites, noResult}
 
 -- ---- the number, by its three tests
@@ -76,32 +77,26 @@ module _ (f : List ℕ) (c : Checked) (C : Checks f c) (v : c .code ≡ 0) where
   layout : layoutBy (c .layout) ≡ Format.layoutBy (editionOf f) (orderOf f) (contents f)
   layout = C .layout ∙ layout-is (releaseOf f) (orderOf f) f (contents f) (itself f accepted)
 
-  number-back : (r : Release) → releaseBy (edition r .number) ≡ r
-  number-back r113 = refl
-  number-back r114 = refl
-  number-back r117 = refl
-
   order-back : (o : Order) → orderBy (eqb (orderMark o) 1) ≡ o
   order-back msf = refl
   order-back lsf = refl
 
-  pub opened : (e : Code.Edition) (n : ℕ) → numbersOf e ≡ edition (releaseBy n) → releaseBy n ≡ releaseBy (c .layout .edition) → Opened f e (eqb (c .layout .order) 1)
-  opened e n h q =
+  pub opened : (e : Code.Edition) → numbersOf e ≡ edition (releaseBy (c .layout .edition)) → Opened f e (eqb (c .layout .order) 1)
+  opened e h =
       record {
         accepted = accepted;
-        edition =
-            h ∙ ap edition q ∙ ap (λ (l : Format.Layout). edition (releaseBy (l .release))) layout ∙ ap edition (number-back (releaseOf f));
+        edition = h ∙ ap (λ (l : Format.Layout). edition (releaseBy (l .release))) layout ∙ ap edition (number-back (releaseOf f));
         order = ap (λ (l : Format.Layout). orderBy (eqb (l .order) 1)) layout ∙ order-back (orderOf f);
       }
 
 -- ---- the target
 
-module _ (e : ℕ) (to : Code.Edition) (n : ℕ) (h : numbersOf to ≡ edition (releaseBy n)) (q : releaseBy n ≡ releaseBy e) where
-  pub target : numbersOf to ≡ editionTo e
-  target = h ∙ ap edition q
-
-  pub known : Known to
-  known = record { release = releaseBy e; is = target }
+-- four tests before a fifth
+and-four : (a b c d e : Bool) → (a && (b && (c && (d && e)))) ≡ ((a && (b && (c && d))) && e)
+and-four false b c d e = refl
+and-four true false c d e = refl
+and-four true true false d e = refl
+and-four true true true d e = refl
 
 -- the last position is the result's size
 last-place : (e : Edition) (o : Order) (w : Dataset × Format.Extras) → getD (positions e o w) 13 0 ≡ file e o .size w
@@ -109,20 +104,30 @@ unfolding partSizes
 last-place e o w = omega (arith, size-total e o w)
 
 module _ (f : List ℕ) (u : Bytes f) (v : verdict f ≡ 0) (e o : ℕ) (to : Code.Edition) (T : numbersOf to ≡ editionTo e) (p : Plan) (P : Planned f to p) where
+  size-here : file (numbersOf to) (orderTo o) .size (datasetOf f, []) ≡ getD (p .places) 13 0
+  size-here = sym (ap (λ (x : List ℕ). getD x 13 0) (P .is (orderTo o)) ∙ last-place (numbersOf to) (orderTo o) (datasetOf f, []))
+
   pub size-is : getD (p .places) 13 0 ≡ file (editionTo e) (orderTo o) .size (datasetOf f, [])
   size-is =
-      ap (λ (x : List ℕ). getD x 13 0) (P .is (orderTo o)) ∙ last-place (numbersOf to) (orderTo o) (datasetOf f, [])
+      sym size-here
       ∙ ap (λ (x : Edition). file x (orderTo o) .size (datasetOf f, [])) T
 
   pub length-is : getD (p .places) 13 0 ≡ length (rewritten f e o)
   length-is = size-is ∙ sym (written-length (releaseBy e) (orderTo o) (datasetOf f))
 
   -- what code tests is whether the target holds the dataset
-  pub held-is : (b : Bool) → b ≡ (allTypes (to .tagged) (datasetOf f .varTypes) && (allShorter (to .«format_width») (datasetOf f .displayFormats) && leb (getD (p .places) 13 0) lengthMax))
-      → holds (editionTo e) (orderTo o) (datasetOf f) ≡ b
+  pub held-is : (b : Bool) → b ≡ heldIn (numbersOf to) (datasetOf f) (getD (p .places) 13 0) → holds (editionTo e) (orderTo o) (datasetOf f) ≡ b
+  unfolding holds
   held-is b h =
-      holds-if f u v (orderTo o) (releaseBy e)
-      ∙ (λ i. allTypes (sym T i .tagged) (datasetOf f .varTypes) && (allShorter (sym T i .formatWidth) (datasetOf f .displayFormats) && leb (sym size-is i) lengthMax)) ∙ sym h
+      let d = datasetOf f in
+      let x = numbersOf to in
+      ap (λ (y : Edition). holds y (orderTo o) d) (sym T)
+      ∙ (λ i. allTypes (x .tagged) (d .varTypes) && (leb (length (d .label)) (x .labelMax)
+      && (allShorter (x .nameWidth) (d .varNames) && (allShorter (x .formatWidth) (d .displayFormats) && (allShorter (x .nameWidth) (d .labelSets) && (allShorter (x .varLabelWidth) (d .variableLabels)
+      && (allShorter (x .nameWidth) (blockNames (d .labelBlocks)) && leb (size-here i) lengthMax)))))))
+      ∙ ap (λ (y : Bool). allTypes (x .tagged) (d .varTypes) && (leb (length (d .label)) (x .labelMax) && y))
+      (and-four (allShorter (x .nameWidth) (d .varNames)) (allShorter (x .formatWidth) (d .displayFormats)) (allShorter (x .nameWidth) (d .labelSets)) (allShorter (x .varLabelWidth) (d .variableLabels)) _)
+      ∙ sym h
 
   pub not-held : offered e o ≡ true → (b : Bool) → holds (editionTo e) (orderTo o) (datasetOf f) ≡ b → held f e o ≡ b
   not-held w b h = rw w h
@@ -141,33 +146,21 @@ not-offered f e o h = rw h
 
 -- ---- tests
 
-pub one-first : (x a b c : ℕ) → x ≡ a → true ≡ (eqb x a || (eqb x b || eqb x c))
-one-first x a b c h = rw (eq-eqb x a h)
+pub offered-not : (e o : ℕ) → isRelease e ≡ false → false ≡ offered e o
+offered-not e o h = rw h
 
-pub one-second : (x a b c : ℕ) → (x ≡ a → ⊥) → x ≡ b → true ≡ (eqb x a || (eqb x b || eqb x c))
-one-second x a b c n h = rw (ne-eqb x a n, eq-eqb x b h)
+pub offered-msf : (e o : ℕ) → isRelease e ≡ true → o ≡ 1 → true ≡ offered e o
+offered-msf e o h q = rw (h, eq-eqb o 1 q)
 
-pub one-third : (x a b c : ℕ) → (x ≡ a → ⊥) → (x ≡ b → ⊥) → eqb x c ≡ (eqb x a || (eqb x b || eqb x c))
-one-third x a b c n m = rw (ne-eqb x a n, ne-eqb x b m)
+pub offered-lsf : (e o : ℕ) → isRelease e ≡ true → (o ≡ 1 → ⊥) → eqb o 2 ≡ offered e o
+offered-lsf e o h n = rw (h, ne-eqb o 1 n)
 
-or-same : (b : Bool) → (b || b) ≡ b
-or-same true = refl
-or-same false = refl
-
-pub offered-by : (e o : ℕ) (b c : Bool) → b ≡ (eqb e 113 || (eqb e 114 || eqb e 117)) → b ≡ true → c ≡ (eqb o 1 || (eqb o 2 || eqb o 2)) → c ≡ offered e o
-offered-by e o b c h t q = q ∙ ap (λ (x : Bool). eqb o 1 || x) (or-same (eqb o 2)) ∙ rw (sym h, t)
-
-pub offered-not : (e o : ℕ) (b : Bool) → b ≡ (eqb e 113 || (eqb e 114 || eqb e 117)) → b ≡ false → false ≡ offered e o
-offered-not e o b h t = rw (sym h, t)
-
+-- a chain of tests: one that fails ends it, after one that holds it goes on
 pub held-no : (a b : Bool) (x : Bool) → a ≡ x → a ≡ false → false ≡ (x && b)
 held-no a b x h q = rw (sym h, q)
 
-pub held-no-2 : (a b x y c : Bool) → a ≡ x → a ≡ true → b ≡ y → b ≡ false → false ≡ (x && (y && c))
-held-no-2 a b x y c h q k r = rw (sym h, q, sym k, r)
-
-pub held-yes : (a b x y c z : Bool) → a ≡ x → a ≡ true → b ≡ y → b ≡ true → z ≡ c → z ≡ (x && (y && c))
-held-yes a b x y c z h q k r w = rw (sym h, q, sym k, r) w
+pub held-on : (a b x z : Bool) → a ≡ x → a ≡ true → z ≡ b → z ≡ (x && b)
+held-on a b x z h q w = rw (sym h, q) w
 
 -- ---- the stages of a rewrite
 
@@ -182,7 +175,7 @@ pub record Begun (f : List ℕ) (n o : ℕ) (e to : Code.Edition) (m : Bool) : T
 pub record Ready (f : List ℕ) (n o : ℕ) (e to : Code.Edition) (m : Bool) (p : Plan) (b : Bool) : Type 0 where
   pub begun : Begun f n o e to m
   pub plan : Planned f to p
-  pub tests : b ≡ (allTypes (to .tagged) (datasetOf f .varTypes) && (allShorter (to .«format_width») (datasetOf f .displayFormats) && leb (getD (p .places) 13 0) lengthMax))
+  pub tests : b ≡ heldIn (numbersOf to) (datasetOf f) (getD (p .places) 13 0)
 
 pub known-target : {f : List ℕ} {n o : ℕ} {e to : Code.Edition} {m : Bool} → Begun f n o e to m → Known to
 known-target {f} {n} B = record { release = releaseBy n; is = B .aims }

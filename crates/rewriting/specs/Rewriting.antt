@@ -7,14 +7,13 @@ use lib.ListN.{length, drop}
 use lib.Dec.{eqb, leb}
 use Rattle.format.specs.Number.{Order, orderBy}
 use Rattle.format.specs.Grammar.{also, unless}
-use Rattle.format.specs.Edition.{Edition, edition}
+use Rattle.format.specs.Edition.{Edition, edition, isRelease, releaseBy}
 use Rattle.format.specs.Dta.{verdict, datasetOf, written, holds}
-use Rattle.editions.specs.Editions.{releaseBy}
 use Rattle.rewriting.specs.declared.Rewritten.{Rewritten}
 
 -- an edition that is read, in either byte order (1: MSF, 2: LSF), is offered
 abbrev pub offered : ℕ → ℕ → Bool
-offered e o = (eqb e 113 || (eqb e 114 || eqb e 117)) && (eqb o 1 || eqb o 2)
+offered e o = isRelease e && (eqb o 1 || eqb o 2)
 
 -- the edition and the byte order of a target that is offered
 abbrev pub editionTo : ℕ → Edition

@@ -1,11 +1,10 @@
 use editions::Edition;
 use sources::Source;
 ghost use mathlib.Core.Path.{_≡_};
-ghost use mathlib.Core.Bool.{_&&_, _||_};
-ghost use lib.Dec.{eqb, leb};
-ghost use Rattle.format.specs.Dta.{datasetOf, allTypes, allShorter, lengthMax};
-ghost use Rattle.editions.specs.Editions.{releaseBy};
+ghost use Rattle.format.specs.Dta.{datasetOf};
+ghost use Rattle.editions.specs.Editions.{numbersOf};
 ghost use Rattle.sources.specs.Sources.{Opened, Sourced};
+ghost use Rattle.rewriting.specs.Held.{textsHeld, heldIn};
 ghost use Rattle.rewriting.specs.Rewriting.{offered, noResult, Rewrites};
 
 // The answer of a rewrite: its refusal number, 0 where it is done; and how many bytes the result has, 0 with a refusal.
@@ -20,49 +19,59 @@ fn refused(code: u8) -> Rewritten
     Rewritten { code, len: 0 }
 }
 
-// Whether `x` is one of three numbers.
-fn is_one_of(x: u64, a: u64, b: u64, c: u64) -> bool
-    ensures { λ r. ⌜ r ≡ (eqb x a || (eqb x b || eqb x c)) ⌝ }
-{
-    if x == a {
-        return true;
-    }
-    if x == b {
-        return true;
-    }
-    x == c
-}
-
 // Whether an edition and a byte order are offered.
 fn is_offered(edition: u64, order: u64) -> bool
     ensures { λ r. ⌜ r ≡ offered edition order ⌝ }
 {
-    if is_one_of(edition, 113, 114, 117) {
-        return is_one_of(order, 1, 2, 2);
+    if !editions::is_release(edition) {
+        return false;
     }
-    false
+    if order == 1 {
+        return true;
+    }
+    order == 2
 }
 
-// The number of an edition that is read, 117 where it is none.
-fn release_of(number: u64) -> u8
-    ensures { λ r. ⌜ releaseBy r ≡ releaseBy number ⌝ }
+// Whether the fields of the edition `to` hold the names, display formats, label-set names and variable labels of the source `s`.
+fn texts_held(f: &[u8], s: Source, e: Edition, msf: bool, to: Edition) -> bool
+    requires { ⌜ (Opened (now f) e msf) × (Sourced (now f) s) ⌝ }
+    ensures { λ r. ⌜ r ≡ textsHeld (numbersOf to) (datasetOf (now (f .entry))) ⌝ }
 {
-    match number {
-        113 => 113,
-        114 => 114,
-        _ => 117,
+    if !write_texts::texts_held(f, s.names, s.k, e.name_width, to.name_width) {
+        return false;
     }
+    if !write_texts::texts_held(f, s.formats, s.k, e.format_width, to.format_width) {
+        return false;
+    }
+    if !write_texts::texts_held(f, s.sets, s.k, e.name_width, to.name_width) {
+        return false;
+    }
+    write_texts::texts_held(f, s.labels, s.k, e.var_label_width, to.var_label_width)
 }
 
 // Whether the edition `to` can hold the dataset of the source `s`, in a result of `size` bytes.
 fn is_held(f: &[u8], s: Source, e: Edition, msf: bool, to: Edition, size: u64) -> bool
     requires { ⌜ (Opened (now f) e msf) × (Sourced (now f) s) ⌝ }
-    ensures { λ r. ⌜ r ≡ (allTypes (to .tagged) (datasetOf (now (f .entry)) .varTypes) && (allShorter (to .«format_width») (datasetOf (now (f .entry)) .displayFormats) && leb size lengthMax)) ⌝ }
+    ensures { λ r. ⌜ r ≡ heldIn (numbersOf to) (datasetOf (now (f .entry))) size ⌝ }
 {
     if !write_types::types_held(f, s.types, s.k, e.tagged, msf, to.tagged) {
         return false;
     }
-    if !write_texts::texts_held(f, s.formats, s.k, e.format_width, to.format_width) {
+    if to.label_max < s.llen {
+        return false;
+    }
+    if !texts_held(f, s, e, msf, to) {
+        return false;
+    }
+    if !write_labels::names_held(
+        f,
+        s.blocks,
+        s.blocksend,
+        e.tagged,
+        e.name_width,
+        msf,
+        to.name_width,
+    ) {
         return false;
     }
     size <= format::length_max()
@@ -80,8 +89,8 @@ pub fn rewrite(f: &[u8], edition: u64, order: u64, out: &mut [u8]) -> Rewritten
         return refused(15);
     }
     let l = c.layout;
-    let e = editions::numbers_of(release_of(l.edition));
-    let to = editions::numbers_of(release_of(edition));
+    let e = editions::numbers_of(l.edition);
+    let to = editions::numbers_of(edition);
     let msf = l.order == 1;
     let tomsf = order == 1;
     let s = sources::source_of(f, l, e, msf);

@@ -32,7 +32,7 @@ pub name-width : (n x : ℕ) (q : Opened) → q ≡ openedBy (editionIn n x) →
 name-width n x q Q = go (q .there) refl
   where
     go : (b : Bool) → q .there ≡ b → q .e .«name_width» ≤ 65535
-    go true h = omega (arith, edition-widths n x q Q h .names)
+    go true h = omega (arith, edition-widths n x q Q h .name-most)
     go false h = let z : q .e .«name_width» ≡ 0 = ap (λ (r : Opened). r .e .«name_width») (Q ∙ ap openedBy (edition-none n x q Q h)) in omega arith
 
 -- ---- the label-set name of a variable, and its label table

@@ -9,7 +9,7 @@ use lib.Dec.{leb}
 use Rattle.format.specs.Slot.{Bytes}
 use Rattle.format.specs.Number.{Order, orderBy}
 use Rattle.format.specs.Grammar.{Sect, text, readTimes, endedAt, row, rowWidth}
-use Rattle.format.specs.Edition.{Edition, Release, r113, r114, r117, edition, n-variable-types, n-varnames, n-sortlist, n-formats, n-value-label-names, n-variable-labels, n-data, n-strls, n-value-labels}
+use Rattle.format.specs.Edition.{Edition, edition, n-variable-types, n-varnames, n-sortlist, n-formats, n-value-label-names, n-variable-labels, n-data, n-strls, n-value-labels}
 use Rattle.format.specs.Variables.{typeCode}
 use Rattle.format.specs.Data.{cell, cellWidth, longRecord}
 use Rattle.format.specs.Labels.{block}
@@ -87,25 +87,6 @@ module _ (f : List ℕ) (u : Bytes f) (e : Code.Edition) (m : Bool) (op : Opened
 
   pub blocks-of : Stand (block (e .tagged) (orderBy m) (e .«name_width»)) f (s .blocks) (s .blocksend) (d .labelBlocks)
   blocks-of = to-code (λ E O k p. Stand (block (E .tagged) O (E .nameWidth)) f p (s .blocksend) (d .labelBlocks)) (d .k) (contentAt f 11 n-value-labels) (S .variables) (s .blocks) (S .blocks) (blocks-stand f u h (s .blocksend) (S .blocks-end))
-
--- ---- widths
-
--- what the editions' numbers are
-pub record Widths (e : Code.Edition) : Type 0 where
-  pub n-4 : e .«n_width» ≡ 4
-  pub label-80 : e .«label_max» ≡ 80
-  pub length-1 : e .«label_length» ≡ 1
-  pub name-33 : e .«name_width» ≡ 33
-  pub format-49 : e .«format_width» ≤ 49
-  pub label-81 : e .«var_label_width» ≡ 81
-  pub v-4 : e .«v_width» ≡ 4
-  pub o-4 : e .«o_width» ≡ 4
-  pub record-4 : e .«record_width» ≡ 4
-
-pub widths-of : (e : Code.Edition) (r : Release) → numbersOf e ≡ edition r → Widths e
-widths-of e r113 h = record { n-4 = ap (λ (x : Edition). x .nWidth) h; label-80 = ap (λ (x : Edition). x .labelMax) h; length-1 = ap (λ (x : Edition). x .labelLength) h; name-33 = ap (λ (x : Edition). x .nameWidth) h; format-49 = omega (arith, ap (λ (x : Edition). x .formatWidth) h); label-81 = ap (λ (x : Edition). x .varLabelWidth) h; v-4 = ap (λ (x : Edition). x .vWidth) h; o-4 = ap (λ (x : Edition). x .oWidth) h; record-4 = ap (λ (x : Edition). x .recordWidth) h }
-widths-of e r114 h = record { n-4 = ap (λ (x : Edition). x .nWidth) h; label-80 = ap (λ (x : Edition). x .labelMax) h; length-1 = ap (λ (x : Edition). x .labelLength) h; name-33 = ap (λ (x : Edition). x .nameWidth) h; format-49 = omega (arith, ap (λ (x : Edition). x .formatWidth) h); label-81 = ap (λ (x : Edition). x .varLabelWidth) h; v-4 = ap (λ (x : Edition). x .vWidth) h; o-4 = ap (λ (x : Edition). x .oWidth) h; record-4 = ap (λ (x : Edition). x .recordWidth) h }
-widths-of e r117 h = record { n-4 = ap (λ (x : Edition). x .nWidth) h; label-80 = ap (λ (x : Edition). x .labelMax) h; length-1 = ap (λ (x : Edition). x .labelLength) h; name-33 = ap (λ (x : Edition). x .nameWidth) h; format-49 = omega (arith, ap (λ (x : Edition). x .formatWidth) h); label-81 = ap (λ (x : Edition). x .varLabelWidth) h; v-4 = ap (λ (x : Edition). x .vWidth) h; o-4 = ap (λ (x : Edition). x .oWidth) h; record-4 = ap (λ (x : Edition). x .recordWidth) h }
 
 -- ---- what a target that holds the dataset holds
 

@@ -55,8 +55,9 @@ module _ (o : Order) (f : List ℕ) (p v x : ℕ) where
     pub pair-yes : num o vw f p ≡ v → eqb (num o ow f (p + vw)) x ≡ pairAt o vw ow f p v x
     pair-yes h = rw (eq-eqb (num o vw f p) v h)
 
-    pub pair-fours : vw ≡ 4 → ow ≡ 4 → pairAt o 4 4 f p v x ≡ pairAt o vw ow f p v x
-    pair-fours a b = rw (a, b)
+    -- widths that are known
+    pub pair-as : (m n : ℕ) → vw ≡ m → ow ≡ n → pairAt o m n f p v x ≡ pairAt o vw ow f p v x
+    pair-as m n a b = rw (a, b)
 
 -- ---- contents by kind
 

@@ -109,6 +109,9 @@ fn named_at(f: &[u8], d: Frame, p: usize, v: usize, o: usize) -> bool
     if d.rwidth == 4 {
         return pair_at(f, p, 4, 4, d.msf, v, o);
     }
+    if d.rwidth == 8 {
+        return pair_at(f, p, 4, 8, d.msf, v, o);
+    }
     pair_at(f, p, 4, d.rwidth, d.msf, v, o)
 }
 
@@ -199,6 +202,9 @@ fn link_at(f: &[u8], d: Frame, p: usize, v: usize, o: usize) -> bool
 {
     if d.vwidth == 4 {
         return pair_at(f, p, 4, 4, d.msf, v, o);
+    }
+    if d.vwidth == 2 {
+        return pair_at(f, p, 2, 6, d.msf, v, o);
     }
     pair_at(f, p, d.vwidth, d.owidth, d.msf, v, o)
 }

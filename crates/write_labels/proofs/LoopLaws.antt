@@ -3,14 +3,14 @@ use mathlib.Core.Path.{_≡_, refl, sym, ap, _∙_, subst}
 use Prim.Native.Nat.{ℕ, _+_, _-_, _*_, _≤_, _<_}
 use native.Mathlib.Omega.{arith}
 use mathlib.Core.List.{List, [], _∷_, _++_}
-use mathlib.Core.Bool.{Bool, true, _&&_}
+use mathlib.Core.Bool.{Bool, true, false, _&&_}
 use borrow.Rule.Slice.PartMut.{putMid}
 use lib.ListN.{length, take, drop}
 use lib.Dec.{ltb}
-use borrow.Author.Tests.{ltb-true}
+use borrow.Author.Tests.{ltb-true, lt-ltb, le-ltb}
 use Rattle.format.specs.Slot.{fill}
 use Rattle.format.specs.Number.{Order, num}
-use Rattle.format.specs.Grammar.{Sect, allSlots, sizes}
+use Rattle.format.specs.Grammar.{Sect, textAt, allSlots, sizes}
 use Rattle.format.specs.Edition.{opening, n-lbl}
 use Rattle.format.specs.Labels.{tableSize, LabelBlock, block}
 use Rattle.format.specs.Dta.{allShorter, blockNames}
@@ -21,7 +21,7 @@ use Rattle.format.proofs.WriteLaws.{fill-all, fill-length}
 use Rattle.writing.specs.Writes.{Puts, Stand, PutsAll}
 use Rattle.writing.proofs.StandLaws.{stand-next, stand-end, stand-same}
 use Rattle.write_tables.proofs.Lay.{Lay, lay-start, lay-part, lay-as, lay-close}
-use Rattle.write_labels.specs.Blocks.{BlockAt, BlocksSize, BlockRoom, BlocksRoom, PutsBlock}
+use Rattle.write_labels.specs.Blocks.{BlockAt, BlocksSize, NamesHeld, BlockRoom, BlocksRoom, PutsBlock}
 use Rattle.write_labels.proofs.BlockLaws.{frame, block-size, block-even, block-read}
 
 module _ (t : Bool) (o : Order) (w : ℕ) (f : List ℕ) where
@@ -104,6 +104,57 @@ module _ (t : Bool) (o : Order) (w : ℕ) (f : List ℕ) where
                   omega (arith, C .sum z, e, g));
             };
           }
+
+  -- ---- whether their names are short
+
+  module _ (v : ℕ) (p q : ℕ) where
+    -- up to i they are: all names are shorter than v if those from i on are
+    pub record Holding (i : ℕ) : Type 0 where
+      pub all : List LabelBlock
+      pub whole : Stand Own f p q all
+      pub left : List LabelBlock
+      pub stand : Stand Own f i q left
+      pub same : allShorter v (blockNames all) ≡ allShorter v (blockNames left)
+
+    pub holding-start : (l : List LabelBlock) → Stand Own f p q l → Holding p
+    holding-start l s = record { all = l; whole = s; left = l; stand = s; same = refl }
+
+    module _ {i : ℕ} (H : Holding i) where
+      -- what is told of these blocks is told of any that stand there
+      held-as : (r : Bool) → allShorter v (blockNames (H .left)) ≡ r → NamesHeld t o w v f p q r
+      held-as r e =
+          record { all = λ l s. sym (H .same ∙ e) ∙ ap (λ (x : List LabelBlock). allShorter v (blockNames x)) (blocks-same p q (H .all) l (H .whole) s) }
+
+      pub holding-end : q ≤ i → NamesHeld t o w v f p q true
+      holding-end b = held-as true (ap (λ (x : List LabelBlock). allShorter v (blockNames x)) (blocks-end i q (H .left) (H .stand) b))
+
+      module _ (b : i < q) where
+        pub holding-turn : Turn i q (H .left)
+        holding-turn = turn i q (H .left) (H .stand) b
+
+        -- the next name, of m bytes, stands at y
+        module _ (y m : ℕ) (dy : y ≡ i + length (opening t n-lbl) + 4) (dm : m ≡ length (textAt w f y)) where
+          name-long : m ≡ length (holding-turn .first .setName)
+          name-long =
+              dm ∙ ap (λ (x : ℕ). length (textAt w f x)) dy ∙ ap length (block-read t o w f i (holding-turn .first) (holding-turn .here) (length (opening t n-lbl)) refl .called)
+
+          left-is : (r : Bool) → ltb m v ≡ r → allShorter v (blockNames (H .left)) ≡ (r && allShorter v (blockNames (holding-turn .others)))
+          left-is r e =
+              ap (λ (x : List LabelBlock). allShorter v (blockNames x)) (holding-turn .is)
+              ∙ ap (λ (x : Bool). x && allShorter v (blockNames (holding-turn .others))) (ap (λ (x : ℕ). ltb x v) (sym name-long) ∙ e)
+
+          pub holding-stop : v ≤ m → NamesHeld t o w v f p q false
+          holding-stop h = held-as false (left-is false (le-ltb m v h))
+
+          pub holding-next : m < v → (x k : ℕ) → x ≡ frame t w → k ≡ tableSize (holding-turn .first .entries) → Holding (i + (x + k))
+          holding-next h x k dx dk =
+              record {
+                all = H .all;
+                whole = H .whole;
+                left = holding-turn .others;
+                stand = subst (λ (j : ℕ). Stand Own f (i + j) q (holding-turn .others)) (sym (λ j. dx j + dk j)) (holding-turn .rest);
+                same = H .same ∙ left-is true (lt-ltb m v h);
+              }
 
   -- ---- what is put for them
 

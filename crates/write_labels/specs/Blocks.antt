@@ -17,6 +17,10 @@ module _ (t : Bool) (o : Order) (w : ℕ) where
   pub record BlocksSize (u : Bool) (v : ℕ) (f : List ℕ) (p q r : ℕ) : Type 0 where
     pub inOrder : (z : Order) → Sizes (block t o w) (block u z v) f p q r
 
+  -- r tells whether the blocks that stand from p to q have names shorter than v
+  pub record NamesHeld (v : ℕ) (f : List ℕ) (p q : ℕ) (r : Bool) : Type 0 where
+    pub all : (l : List LabelBlock) → Stand (block t o w) f p q l → r ≡ allShorter v (blockNames l)
+
   -- the block b stands at p
   pub record BlockAt (f : List ℕ) (p : ℕ) (b : LabelBlock) : Type 0 where
     pub right : block t o w .Right b

@@ -10,7 +10,7 @@ ghost use Rattle.format.specs.Labels.{blockHead, block};
 ghost use Rattle.number.specs.Numbers.{IsNumber};
 ghost use Rattle.writing.specs.Writes.{Room, PutsAll};
 ghost use Rattle.write_tables.specs.Tables.{TableRoom, PutsTable};
-ghost use Rattle.write_labels.specs.Blocks.{BlocksSize, BlockRoom, PutsBlock, BlocksRoom};
+ghost use Rattle.write_labels.specs.Blocks.{BlocksSize, NamesHeld, BlockRoom, PutsBlock, BlocksRoom};
 
 // The bytes of the tag that opens a label block.
 fn open_size(tagged: bool) -> usize
@@ -69,6 +69,32 @@ pub fn blocks_size(
         at += from + t;
     }
     n
+}
+
+// Whether the label blocks from `p` to `q` have names shorter than `tow`.
+pub fn names_held(
+    f: &[u8],
+    p: usize,
+    q: usize,
+    tagged: bool,
+    w: usize,
+    msf: bool,
+    tow: usize,
+) -> bool
+    requires { ⌜ (Room (block tagged (orderBy msf) w) (block tagged (orderBy msf) w) (now f) p q (length (now f))) × (length (now f) ≤ 2147483647) × (w ≤ 255) ⌝ }
+    ensures { λ r. ⌜ NamesHeld tagged (orderBy msf) w tow (now (f .entry)) p q r ⌝ }
+{
+    let from = frame_size(tagged, w);
+    let name = open_size(tagged) + 4;
+    let mut at = p;
+    while at < q {
+        if tow <= text::text_len(f, at + name, w) {
+            return false;
+        }
+        let t = table_len(f, at, tagged, msf);
+        at += from + t;
+    }
+    true
 }
 
 // Puts the table length at `p`, the name in `w` bytes after it, in `tow` bytes, and three zeros.

@@ -24,7 +24,8 @@ use Rattle.writing.specs.Writes.{Puts, Stand, Room, PutsAll}
 use Rattle.sources.specs.declared.Source.{Source}
 use Rattle.sources.specs.Sources.{Opened, Sourced, Known, Holding}
 use Rattle.sources.specs.Parts.{rowsTo, longsTo, blocksTo}
-use Rattle.sources.proofs.PartReads.{widths-of, rows-of, rows-room, rows-few, types-of, typed-of, longs-of, blocks-of, held-parts}
+use Rattle.editions.proofs.WidthLaws.{code-widths}
+use Rattle.sources.proofs.PartReads.{rows-of, rows-room, rows-few, types-of, typed-of, longs-of, blocks-of, held-parts}
 use Rattle.write_parts.specs.Enclosed.{enclosed}
 use Rattle.write_strls.proofs.RoomLaws.{sizes-same}
 use Rattle.write_strls.specs.Records.{RecordsPut}
@@ -103,7 +104,7 @@ module _ (f : List ℕ) (u : Bytes f) (e : Code.Edition) (m : Bool) (op : Opened
       (readTimes (row (cell (orderBy m) (e .«v_width») (e .«o_width»)) (sym (types-of f u e m op s S) i)) (sym (S .observations) i) f (s .rows)))))
 
   eight : e .«v_width» + e .«o_width» ≡ 8
-  eight = let w = widths-of e (releaseOf f) (op .edition) in omega (arith, w .v-4, w .o-4)
+  eight = let w = code-widths e (releaseOf f) (op .edition) in omega (arith, w .eight)
 
   span : rowSpan f rowsSource ≡ rowWidth (cellWidth (e .«v_width») (e .«o_width»)) (t .varTypes)
   span =
@@ -124,7 +125,7 @@ module _ (f : List ℕ) (u : Bytes f) (e : Code.Edition) (m : Bool) (op : Opened
 
   module _ (H : Known to) where
     pub to-eight : to .«v_width» + to .«o_width» ≡ 8
-    to-eight = let w = widths-of to (H .release) (H .is) in omega (arith, w .v-4, w .o-4)
+    to-eight = let w = code-widths to (H .release) (H .is) in omega (arith, w .eight)
 
     abbrev rowForms : Forms
     rowForms = forms rowsSource z (to .«v_width») (to .«o_width»)

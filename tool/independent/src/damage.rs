@@ -1,5 +1,6 @@
 //! Accepted files damaged at random.
 
+use crate::edition::{Edition, PADDING, RECORD_V};
 use crate::generate::Order;
 use crate::parts::{parts, Kind, Part, KINDS};
 use crate::random::Random;
@@ -10,7 +11,7 @@ use std::ops::Range;
 #[derive(Clone)]
 pub struct Source {
     file: Vec<u8>,
-    tagged: bool,
+    edition: &'static Edition,
     order: Order,
     positions: [usize; 14],
     parts: Vec<Part>,
@@ -28,7 +29,7 @@ impl Source {
         }
         Source {
             file,
-            tagged: layout.edition == 117,
+            edition: Edition::known(layout.edition),
             order: Order::from_code(layout.byte_order),
             positions: layout.positions.map(|position| position as usize),
             parts: found.parts,
@@ -44,7 +45,7 @@ impl Source {
         for _ in 0..times {
             copy.damage(random);
         }
-        if copy.tagged && random.once_in(2) {
+        if copy.edition.tagged && random.once_in(2) {
             copy.repair_map();
         }
         copy.file
@@ -85,6 +86,17 @@ impl Source {
             } else {
                 copy.change_part_at(index, random);
             }
+        }
+        copy.file
+    }
+
+    /// A copy damaged in a part of that kind, where the file has one.
+    pub fn damaged_as(&self, kind: Kind, random: &mut Random) -> Vec<u8> {
+        let mut copy = self.clone();
+        let found = &copy.by_kind[kind as usize];
+        if !found.is_empty() {
+            let index = random.pick(found);
+            copy.change_part_at(index, random);
         }
         copy.file
     }
@@ -283,7 +295,11 @@ impl Source {
             0xffff_fff8,
             0xffff_fffe,
             0xffff_ffff,
-            0x1_0000_0000,
+            1 << 32,
+            1 << 40,
+            1 << 47,
+            1 << 48,
+            1 << 63,
             u64::MAX,
         ];
         let small = random.between(1, 40) as u64;
@@ -403,7 +419,8 @@ impl Source {
             return;
         };
         self.store_number(text, length);
-        let head = start.saturating_sub(table.end + 36) as u64;
+        let name = self.edition.name + PADDING;
+        let head = start.saturating_sub(table.end + name) as u64;
         self.store_number(table, head + length);
     }
 
@@ -421,11 +438,18 @@ impl Source {
             return;
         }
         match part.kind {
+            Kind::Edition if self.edition.tagged => {
+                let digits = [
+                    b"117", b"118", b"117", b"118", b"113", b"115", b"116", b"119",
+                ];
+                let digits = random.pick(&digits);
+                self.store(part.start, digits);
+            }
             Kind::Edition => {
-                let edition = random.pick(&[112, 113, 114, 115, 116, 117, 118, b'<']);
+                let edition = random.pick(&[112, 113, 114, 115, 116, 117, 118, 119, b'<']);
                 self.store(part.start, &[edition]);
             }
-            Kind::ByteOrder if self.tagged => {
+            Kind::ByteOrder if self.edition.tagged => {
                 let order = random.pick(&[b"MSF", b"LSF", b"msf", b"FSM", b"LSM"]);
                 self.store(part.start, order);
             }
@@ -434,9 +458,12 @@ impl Source {
                 self.store(part.start, &[byte]);
             }
             Kind::LabelLength => {
-                let byte = random.pick(&[0, 1, 79, 80, 81, 128, 255]);
-                self.store(part.start, &[byte]);
+                let lengths = [
+                    0, 1, 79, 80, 81, 128, 255, 256, 319, 320, 321, 0x4001, 0xffff,
+                ];
+                self.store_number(part, random.pick(&lengths));
             }
+            Kind::N if random.once_in(3) => self.raise(part, random),
             Kind::StampLength => {
                 let byte = random.pick(&[0, 1, 16, 17, 18, 255]);
                 self.store(part.start, &[byte]);
@@ -490,6 +517,16 @@ impl Source {
         }
     }
 
+    /// A higher byte of a number made another.
+    fn raise(&mut self, part: Part, random: &mut Random) {
+        let width = (part.end - part.start).min(8);
+        if width > 1 {
+            let byte = random.between(1, 255) as u64;
+            let higher = byte << (8 * random.between(1, width - 1));
+            self.store_number(part, self.number(part) ^ higher);
+        }
+    }
+
     fn change_label(&mut self, part: Part, random: &mut Random) {
         let length = part.end - part.start;
         match random.below(4) {
@@ -526,7 +563,7 @@ impl Source {
     }
 
     fn change_type(&mut self, part: Part, random: &mut Random) {
-        let codes: &[u64] = match self.tagged {
+        let codes: &[u64] = match self.edition.tagged {
             true => &[
                 0, 1, 244, 245, 250, 251, 255, 256, 2045, 2046, 32767, 32768, 32769, 65525, 65526,
                 65527, 65528, 65529, 65530, 65531, 65535,
@@ -575,32 +612,44 @@ impl Source {
         self.store_number(part, number);
     }
 
-    fn change_reference(&mut self, part: Part, random: &mut Random) {
-        let other = self.of_kind(part.kind, random).unwrap_or(part);
-        // V and o stand side by side.
+    /// The widths of the two numbers of a cell or record, which stand side by side.
+    fn reference_widths(&self, kind: Kind) -> (usize, usize) {
+        match kind {
+            Kind::StrlV | Kind::StrlO => (self.edition.cell_v, self.edition.cell_o),
+            _ => (RECORD_V, self.edition.record_o),
+        }
+    }
+
+    /// The two numbers, by one of them.
+    fn reference(&self, part: Part) -> Range<usize> {
+        let (v, o) = self.reference_widths(part.kind);
         let first = match part.kind {
             Kind::StrlV | Kind::RecordV => part.start,
-            _ => part.start.saturating_sub(4),
+            _ => part.start.saturating_sub(v),
         };
-        match random.below(6) {
-            0 => self.store(first, &[0; 8]),
+        first..first + v + o
+    }
+
+    fn change_reference(&mut self, part: Part, random: &mut Random) {
+        let other = self.of_kind(part.kind, random).unwrap_or(part);
+        let whole = self.reference(part);
+        match random.below(7) {
+            0 => self.store(whole.start, &vec![0; whole.len()]),
             1 => self.store_number(part, self.number(other)),
             2 => {
-                let other_first = match part.kind {
-                    Kind::StrlV | Kind::RecordV => other.start,
-                    _ => other.start.saturating_sub(4),
-                };
-                let reference = self.bytes(other_first..other_first + 8);
-                self.store(first, &reference);
+                let reference = self.bytes(self.reference(other));
+                self.store(whole.start, &reference);
             }
             3 => self.store_number(part, random.below(7) as u64),
             4 => {
-                let reference = self.bytes(first..first + 8);
-                if let Some((v, o)) = reference.split_at_checked(4) {
+                let reference = self.bytes(whole.clone());
+                let (width, _) = self.reference_widths(part.kind);
+                if let Some((v, o)) = reference.split_at_checked(width) {
                     let swapped = [o, v].concat();
-                    self.store(first, &swapped);
+                    self.store(whole.start, &swapped);
                 }
             }
+            5 => self.raise(part, random),
             _ => self.change_number(part, random),
         }
     }

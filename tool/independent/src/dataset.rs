@@ -1,5 +1,6 @@
-//! The dataset of an accepted file, by the paper: what the three editions share.
+//! The dataset of an accepted file, by the paper: what the editions share.
 
+use crate::edition::{Edition, PADDING, RECORD_V, SORT_WIDTH};
 use crate::generate::Order;
 use crate::Layout;
 
@@ -109,7 +110,7 @@ pub fn cells(file: &[u8], layout: &Layout, variables: &[Variable]) -> Vec<Cell> 
 /// All but the cells, which may be many.
 pub fn outline(file: &[u8], layout: &Layout) -> Dataset {
     let reading = Reading::new(file, layout);
-    let (label, stamp) = match reading.tagged {
+    let (label, stamp) = match reading.edition.tagged {
         true => reading.tagged_header(),
         false => (text(&file[10..91]), text(&file[91..109])),
     };
@@ -145,7 +146,7 @@ struct Reading<'a> {
     file: &'a [u8],
     layout: &'a Layout,
     order: Order,
-    tagged: bool,
+    edition: &'static Edition,
 }
 
 impl<'a> Reading<'a> {
@@ -154,7 +155,7 @@ impl<'a> Reading<'a> {
             file,
             layout,
             order: Order::from_code(layout.byte_order),
-            tagged: layout.edition == 117,
+            edition: Edition::known(layout.edition),
         }
     }
 
@@ -162,7 +163,7 @@ impl<'a> Reading<'a> {
     fn part(&self, item: usize, tag: &str) -> &'a [u8] {
         let start = self.layout.positions[item] as usize;
         let end = self.layout.positions[item + 1] as usize;
-        match self.tagged {
+        match self.edition.tagged {
             true => &self.file[start + tag.len() + 2..end - tag.len() - 3],
             false => &self.file[start..end],
         }
@@ -172,12 +173,12 @@ impl<'a> Reading<'a> {
         self.order.number(take(rest, width))
     }
 
-    /// Label and stamp of 117.
+    /// Label and stamp of a tagged edition.
     fn tagged_header(&self) -> (Vec<u8>, Vec<u8>) {
-        let before = "<stata_dta><header><release>117</release><byteorder>MSF</byteorder>\
-                      <K>..</K><N>....</N><label>";
-        let mut rest = &self.file[before.len()..];
-        let length = self.number(&mut rest, 1);
+        let before = "<byteorder>MSF</byteorder><K>..</K><N></N><label>";
+        let before = self.edition.opening().len() + before.len() + self.edition.n;
+        let mut rest = &self.file[before..];
+        let length = self.number(&mut rest, self.edition.label_length as u64);
         let label = take(&mut rest, length).to_vec();
         take(&mut rest, "</label><timestamp>".len() as u64);
         let length = self.number(&mut rest, 1);
@@ -185,8 +186,8 @@ impl<'a> Reading<'a> {
     }
 
     fn variables(&self) -> Vec<Variable> {
-        let code_width = if self.tagged { 2 } else { 1 };
-        let format_width = if self.layout.edition == 113 { 12 } else { 49 };
+        let code_width = self.edition.code() as u64;
+        let [name, format, variable_label] = self.text_widths();
         let mut types = self.part(2, "variable_types");
         let mut names = self.part(3, "varnames");
         let mut formats = self.part(5, "formats");
@@ -195,16 +196,22 @@ impl<'a> Reading<'a> {
         (0..self.layout.k)
             .map(|_| Variable {
                 of: self.type_of(self.number(&mut types, code_width)),
-                name: text(take(&mut names, 33)),
-                format: text(take(&mut formats, format_width)),
-                set: text(take(&mut sets, 33)),
-                label: text(take(&mut labels, 81)),
+                name: text(take(&mut names, name)),
+                format: text(take(&mut formats, format)),
+                set: text(take(&mut sets, name)),
+                label: text(take(&mut labels, variable_label)),
             })
             .collect()
     }
 
+    /// Of names, of display formats and of variable labels.
+    fn text_widths(&self) -> [u64; 3] {
+        let edition = self.edition;
+        [edition.name, edition.format, edition.variable_label].map(|width| width as u64)
+    }
+
     fn type_of(&self, code: u64) -> Type {
-        match (self.tagged, code) {
+        match (self.edition.tagged, code) {
             (true, 1..=2045) | (false, 1..=244) => Type::Text(code),
             (true, 32768) => Type::Strl,
             (true, 65530) | (false, 251) => Type::Byte,
@@ -218,7 +225,7 @@ impl<'a> Reading<'a> {
 
     fn sorted(&self) -> Vec<u64> {
         self.part(4, "sortlist")
-            .chunks_exact(2)
+            .chunks_exact(SORT_WIDTH)
             .map(|entry| self.order.number(entry))
             .take_while(|variable| *variable != 0)
             .collect()
@@ -239,8 +246,8 @@ impl<'a> Reading<'a> {
         match of {
             Type::Text(width) => Cell::Text(text(take(rest, width))),
             Type::Strl => Cell::Reference {
-                v: self.number(rest, 4),
-                o: self.number(rest, 4),
+                v: self.number(rest, self.edition.cell_v as u64),
+                o: self.number(rest, self.edition.cell_o as u64),
             },
             _ => Cell::Bits(self.number(rest, of.width())),
         }
@@ -251,8 +258,8 @@ impl<'a> Reading<'a> {
         let mut records = Vec::new();
         while !rest.is_empty() {
             assert_eq!(take(&mut rest, 3), b"GSO");
-            let v = self.number(&mut rest, 4);
-            let o = self.number(&mut rest, 4);
+            let v = self.number(&mut rest, RECORD_V as u64);
+            let o = self.number(&mut rest, self.edition.record_o as u64);
             let kind = take(&mut rest, 1)[0];
             let length = self.number(&mut rest, 4);
             let contents = take(&mut rest, length).to_vec();
@@ -270,11 +277,11 @@ impl<'a> Reading<'a> {
         let mut rest = self.part(11, "value_labels");
         let mut blocks = Vec::new();
         while !rest.is_empty() {
-            if self.tagged {
+            if self.edition.tagged {
                 assert_eq!(take(&mut rest, 5), b"<lbl>");
             }
             blocks.push(self.block(&mut rest));
-            if self.tagged {
+            if self.edition.tagged {
                 assert_eq!(take(&mut rest, 6), b"</lbl>");
             }
         }
@@ -283,8 +290,8 @@ impl<'a> Reading<'a> {
 
     fn block(&self, rest: &mut &[u8]) -> Block {
         let _table_length = self.number(rest, 4);
-        let name = text(take(rest, 33));
-        let _padding = take(rest, 3);
+        let name = text(take(rest, self.edition.name as u64));
+        let _padding = take(rest, PADDING as u64);
         let n = self.number(rest, 4);
         let text_length = self.number(rest, 4);
         let mut offsets = take(rest, 4 * n);

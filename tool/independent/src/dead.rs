@@ -1,5 +1,6 @@
 //! The dead bytes of an accepted file: they are in no answer.
 
+use crate::edition::Edition;
 use crate::generate::Order;
 use crate::parts::{parts, Kind, Part};
 use crate::Layout;
@@ -8,6 +9,7 @@ use std::ops::Range;
 /// Their places, ascending.
 pub fn dead(file: &[u8], layout: &Layout) -> Vec<usize> {
     let parts = parts(file, layout).parts;
+    let edition = Edition::known(layout.edition);
     let mut finder = Finder {
         file,
         order: Order::from_code(layout.byte_order),
@@ -22,8 +24,8 @@ pub fn dead(file: &[u8], layout: &Layout) -> Vec<usize> {
             Kind::Name | Kind::Format | Kind::LabelSet | Kind::VariableLabel | Kind::BlockName => {
                 finder.after_zero(whole)
             }
-            Kind::Label if layout.edition != 117 => finder.after_zero(whole),
-            Kind::Stamp if layout.edition != 117 && file[part.start] == 0 => {
+            Kind::Label if !edition.tagged => finder.after_zero(whole),
+            Kind::Stamp if !edition.tagged && file[part.start] == 0 => {
                 finder.dead.extend(part.start + 1..part.end - 1);
             }
             Kind::Sort if sort_ended => finder.dead.extend(whole),
@@ -44,7 +46,7 @@ pub fn dead(file: &[u8], layout: &Layout) -> Vec<usize> {
 /// For each variable, whether it is text of fixed width.
 fn texts(file: &[u8], layout: &Layout, parts: &[Part]) -> Vec<bool> {
     let order = Order::from_code(layout.byte_order);
-    let most = if layout.edition == 117 { 2045 } else { 244 };
+    let most = Edition::known(layout.edition).widest_text();
     parts
         .iter()
         .filter(|part| part.kind == Kind::Type)

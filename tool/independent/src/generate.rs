@@ -1,5 +1,6 @@
 //! Accepted files made at random, by the paper.
 
+use crate::edition::{Edition, K_WIDTH, PADDING, RECORD_V, SORT_WIDTH};
 use crate::random::Random;
 
 #[derive(Clone, Copy, Debug, PartialEq, Eq)]
@@ -51,13 +52,14 @@ pub fn file_of(random: &mut Random, edition: u8, order: Order) -> Vec<u8> {
 
 /// As `file`, with the dataset.
 pub fn made(random: &mut Random) -> Made {
-    let edition = random.pick(&[113, 114, 117, 117]);
+    let edition = random.pick(&[113, 114, 115, 117, 117, 118, 118, 118]);
     let order = random.pick(&[Order::Msf, Order::Lsf]);
     made_of(random, edition, order)
 }
 
 /// As `file_of`, with the dataset.
 pub fn made_of(random: &mut Random, edition: u8, order: Order) -> Made {
+    let edition = Edition::known(edition);
     let k = variables(random);
     let n = if k == 0 { 0 } else { observations(random) };
     let dataset = Dataset {
@@ -73,9 +75,9 @@ pub fn made_of(random: &mut Random, edition: u8, order: Order) -> Made {
         file: Vec::new(),
     };
     maker.choose_blocks();
-    match edition {
-        117 => maker.tagged(),
-        _ => maker.old(),
+    match edition.tagged {
+        true => maker.tagged(),
+        false => maker.old(),
     }
     Made {
         file: maker.file,
@@ -161,8 +163,8 @@ pub enum Type {
     Byte,
 }
 
-fn type_of(random: &mut Random, edition: u8, n: usize) -> Type {
-    if edition == 117 && random.once_in(3) {
+fn type_of(random: &mut Random, edition: &Edition, n: usize) -> Type {
+    if edition.tagged && random.once_in(3) {
         return Type::Strl;
     }
     if random.once_in(3) {
@@ -171,11 +173,11 @@ fn type_of(random: &mut Random, edition: u8, n: usize) -> Type {
     random.pick(&[Type::Double, Type::Float, Type::Long, Type::Int, Type::Byte])
 }
 
-fn text_width(random: &mut Random, edition: u8, n: usize) -> usize {
+fn text_width(random: &mut Random, edition: &Edition, n: usize) -> usize {
     match random.below(12) {
         0 => 1,
         1 if n < 10 => 244,
-        2 if n < 10 && edition == 117 => random.pick(&[245, 256, 2045, 251, 255]),
+        2 if n < 10 && edition.tagged => random.pick(&[245, 256, 2045, 251, 255]),
         3 if n < 10 => random.between(1, 244),
         _ => random.between(1, 12),
     }
@@ -200,7 +202,7 @@ impl Type {
             Type::Long => 253,
             Type::Float => 254,
             Type::Double => 255,
-            Type::Strl => unreachable!("113 and 114 have no strL"),
+            Type::Strl => unreachable!("an old edition has no strL"),
         }
     }
 
@@ -232,7 +234,7 @@ const SEEK_NOTHING: [f64; 9] = [
 
 struct Maker<'a> {
     random: &'a mut Random,
-    edition: u8,
+    edition: &'static Edition,
     order: Order,
     dataset: Dataset,
     file: Vec<u8>,
@@ -267,12 +269,15 @@ impl Maker<'_> {
         self.put_dead(width - text.len() - 1);
     }
 
-    /// A text for a field of that width.
+    /// A text for a field of that width, at times as long as another edition's field, or one byte shorter.
     fn any_text(&mut self, least: usize, width: usize) -> Vec<u8> {
-        let length = match self.random.below(6) {
+        let edges =
+            [11, 12, 32, 33, 48, 49, 80, 81].map(|edge: usize| edge.clamp(least, width - 1));
+        let length = match self.random.below(8) {
             0 => least,
             1 => width - 1,
             2 => self.random.between(least, width - 1),
+            3 => self.random.pick(&edges),
             _ => self.random.between(least, (width - 1).min(least + 6)),
         };
         self.random.text(length)
@@ -282,8 +287,8 @@ impl Maker<'_> {
 
     fn names(&mut self) {
         for _ in 0..self.k() {
-            let name = self.any_text(1, 33);
-            self.put_field(&name, 33);
+            let name = self.any_text(1, self.edition.name);
+            self.put_field(&name, self.edition.name);
             self.dataset.names.push(name);
         }
     }
@@ -302,15 +307,15 @@ impl Maker<'_> {
         };
         variables.truncate(sorted);
         for variable in &variables {
-            self.put_number(*variable, 2);
+            self.put_number(*variable, SORT_WIDTH);
         }
-        self.put_number(0, 2);
-        self.put_dead(2 * (k - sorted));
+        self.put_number(0, SORT_WIDTH);
+        self.put_dead(SORT_WIDTH * (k - sorted));
         self.dataset.sorted = variables;
     }
 
     fn formats(&mut self) {
-        let width = if self.edition == 113 { 12 } else { 49 };
+        let width = self.edition.format;
         for _ in 0..self.k() {
             let format = match self.random.below(3) {
                 0 => self.any_text(0, width),
@@ -329,19 +334,19 @@ impl Maker<'_> {
         for _ in 0..self.k() {
             let blocks = self.dataset.blocks.len();
             let set = match self.random.below(4) {
-                0 => self.any_text(0, 33),
+                0 => self.any_text(0, self.edition.name),
                 _ if blocks == 0 => Vec::new(),
                 _ => self.dataset.blocks[self.random.below(blocks)].name.clone(),
             };
-            self.put_field(&set, 33);
+            self.put_field(&set, self.edition.name);
             self.dataset.sets.push(set);
         }
     }
 
     fn labels(&mut self) {
         for _ in 0..self.k() {
-            let label = self.any_text(0, 81);
-            self.put_field(&label, 81);
+            let label = self.any_text(0, self.edition.variable_label);
+            self.put_field(&label, self.edition.variable_label);
             self.dataset.labels.push(label);
         }
     }
@@ -502,8 +507,8 @@ impl Maker<'_> {
                 cell
             }
         };
-        self.put_number(reference.0, 4);
-        self.put_number(reference.1, 4);
+        self.put_number(reference.0, self.edition.cell_v);
+        self.put_number(reference.1, self.edition.cell_o);
         Cell::Reference(reference)
     }
 
@@ -522,8 +527,8 @@ impl Maker<'_> {
             }
         };
         self.put(b"GSO");
-        self.put_number(cell.0, 4);
-        self.put_number(cell.1, 4);
+        self.put_number(cell.0, RECORD_V);
+        self.put_number(cell.1, self.edition.record_o);
         self.put(&[kind]);
         self.put_number(contents.len() as u64, 4);
         self.put(&contents);
@@ -540,7 +545,7 @@ impl Maker<'_> {
             let blocks = self.dataset.blocks.len();
             let name = match blocks > 0 && self.random.once_in(4) {
                 true => self.dataset.blocks[self.random.below(blocks)].name.clone(),
-                false => self.any_text(1, 33),
+                false => self.any_text(1, self.edition.name),
             };
             let values = self.label_values();
             let entries = values
@@ -555,8 +560,8 @@ impl Maker<'_> {
         let table = self.label_table(block);
         self.put_number(table.len() as u64, 4);
         let name = self.dataset.blocks[block].name.clone();
-        self.put_field(&name, 33);
-        self.put_dead(3);
+        self.put_field(&name, self.edition.name);
+        self.put_dead(PADDING);
         self.put(&table);
     }
 
@@ -647,15 +652,18 @@ impl Maker<'_> {
     }
 
     fn dataset_label(&mut self) -> Vec<u8> {
-        let length = match self.random.below(4) {
+        let most = self.edition.most_label;
+        let length = match self.random.below(6) {
             0 => 0,
-            1 => 80,
+            1 => most,
+            2 => self.random.pick(&[80, 81, 255, 256]).min(most),
+            3 => self.random.below(most + 1),
             _ => self.random.below(81),
         };
         self.random.text(length)
     }
 
-    // Editions 113 and 114.
+    // Editions 113, 114 and 115.
 
     fn old(&mut self) {
         self.old_header();
@@ -680,12 +688,12 @@ impl Maker<'_> {
             Order::Msf => 1,
             Order::Lsf => 2,
         };
-        self.put(&[self.edition, order, 1]);
+        self.put(&[self.edition.number, order, 1]);
         self.put_dead(1);
-        self.put_number(self.k() as u64, 2);
-        self.put_number(self.dataset.n as u64, 4);
+        self.put_number(self.k() as u64, K_WIDTH);
+        self.put_number(self.dataset.n as u64, self.edition.n);
         let label = self.dataset_label();
-        self.put_field(&label, 81);
+        self.put_field(&label, self.edition.most_label + 1);
         self.dataset.label = label;
         if self.random.once_in(2) {
             let stamp = self.random.text(17);
@@ -709,7 +717,7 @@ impl Maker<'_> {
         self.put(&[0; 5]);
     }
 
-    // Edition 117.
+    // Editions 117 and 118.
 
     fn tagged(&mut self) {
         self.tagged_header();
@@ -774,13 +782,16 @@ impl Maker<'_> {
             Order::Msf => "MSF",
             Order::Lsf => "LSF",
         };
-        self.put(b"<stata_dta><header><release>117</release>");
+        let edition = self.edition;
+        self.put(edition.opening().as_bytes());
         self.between("byteorder", |maker| maker.put(order.as_bytes()));
-        self.between("K", |maker| maker.put_number(maker.k() as u64, 2));
-        self.between("N", |maker| maker.put_number(maker.dataset.n as u64, 4));
+        self.between("K", |maker| maker.put_number(maker.k() as u64, K_WIDTH));
+        self.between("N", |maker| {
+            maker.put_number(maker.dataset.n as u64, edition.n)
+        });
         let label = self.dataset_label();
         self.between("label", |maker| {
-            maker.put(&[label.len() as u8]);
+            maker.put_number(label.len() as u64, edition.label_length);
             maker.put(&label);
         });
         self.dataset.label = label;

@@ -1,9 +1,10 @@
-//! An independent reader of Stata .dta files, editions 113, 114 and 117, and its comparison with the proved one.
+//! An independent reader of Stata .dta files, editions 113, 114, 115, 117 and 118, and its comparison with the proved one.
 //! The reader is written from the paper alone. It serves to test, and to say why a file is refused.
 
 pub mod damage;
 pub mod dataset;
 pub mod dead;
+pub mod edition;
 pub mod generate;
 pub mod parts;
 pub mod proved;

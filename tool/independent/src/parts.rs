@@ -1,5 +1,6 @@
 //! The parts of an accepted file, one after another, found with its layout.
 
+use crate::edition::{Edition, K_WIDTH, PADDING, RECORD_V, SORT_WIDTH, STAMP};
 use crate::generate::Order;
 use crate::Layout;
 use std::ops::Range;
@@ -68,14 +69,15 @@ pub fn parts(file: &[u8], layout: &Layout) -> Parts {
     let mut walk = Walk {
         file,
         layout,
+        edition: Edition::known(layout.edition),
         order: Order::from_code(layout.byte_order),
         at: 0,
         parts: Vec::new(),
         groups: Vec::new(),
     };
-    match layout.edition {
-        117 => walk.tagged(),
-        _ => walk.old(),
+    match walk.edition.tagged {
+        true => walk.tagged(),
+        false => walk.old(),
     }
     assert_eq!(walk.at, file.len());
     for pair in layout.positions.windows(2) {
@@ -92,6 +94,7 @@ pub fn parts(file: &[u8], layout: &Layout) -> Parts {
 struct Walk<'a> {
     file: &'a [u8],
     layout: &'a Layout,
+    edition: &'static Edition,
     order: Order,
     at: usize,
     parts: Vec<Part>,
@@ -145,15 +148,15 @@ impl Walk<'_> {
     }
 
     fn cell(&mut self, code: usize) {
-        let width = match (self.layout.edition, code) {
-            (117, 32768) => {
-                self.part(Kind::StrlV, 4);
-                return self.part(Kind::StrlO, 4);
+        let width = match (self.edition.tagged, code) {
+            (true, 32768) => {
+                self.part(Kind::StrlV, self.edition.cell_v);
+                return self.part(Kind::StrlO, self.edition.cell_o);
             }
-            (117, 65526) | (113 | 114, 255) => 8,
-            (117, 65527 | 65528) | (113 | 114, 253 | 254) => 4,
-            (117, 65529) | (113 | 114, 252) => 2,
-            (117, 65530) | (113 | 114, 251) => 1,
+            (true, 65526) | (false, 255) => 8,
+            (true, 65527 | 65528) | (false, 253 | 254) => 4,
+            (true, 65529) | (false, 252) => 2,
+            (true, 65530) | (false, 251) => 1,
             _ => code,
         };
         self.part(Kind::Cell, width);
@@ -161,8 +164,8 @@ impl Walk<'_> {
 
     fn label_block(&mut self) {
         self.part(Kind::TableLength, 4);
-        self.part(Kind::BlockName, 33);
-        self.part(Kind::Padding, 3);
+        self.part(Kind::BlockName, self.edition.name);
+        self.part(Kind::Padding, PADDING);
         let entries = self.number(Kind::Entries, 4);
         let text = self.number(Kind::TextLength, 4);
         self.list(Kind::Offset, entries, 4);
@@ -170,7 +173,21 @@ impl Walk<'_> {
         self.part(Kind::Text, text);
     }
 
-    // Editions 113 and 114.
+    /// From the names to the variable labels.
+    fn lists(&mut self, between: impl Fn(&mut Self, &dyn Fn(&mut Self))) {
+        let (k, edition) = (self.k(), self.edition);
+        for (kind, count, width) in [
+            (Kind::Name, k, edition.name),
+            (Kind::Sort, k + 1, SORT_WIDTH),
+            (Kind::Format, k, edition.format),
+            (Kind::LabelSet, k, edition.name),
+            (Kind::VariableLabel, k, edition.variable_label),
+        ] {
+            between(self, &|walk| walk.list(kind, count, width));
+        }
+    }
+
+    // Editions 113, 114 and 115.
 
     fn old(&mut self) {
         let k = self.k();
@@ -178,17 +195,12 @@ impl Walk<'_> {
         self.part(Kind::ByteOrder, 1);
         self.part(Kind::FileType, 1);
         self.part(Kind::Unused, 1);
-        self.part(Kind::K, 2);
-        self.part(Kind::N, 4);
-        self.part(Kind::Label, 81);
-        self.part(Kind::Stamp, 18);
+        self.part(Kind::K, K_WIDTH);
+        self.part(Kind::N, self.edition.n);
+        self.part(Kind::Label, self.edition.most_label + 1);
+        self.part(Kind::Stamp, STAMP + 1);
         let types: Vec<usize> = (0..k).map(|_| self.number(Kind::Type, 1)).collect();
-        self.list(Kind::Name, k, 33);
-        self.list(Kind::Sort, k + 1, 2);
-        let width = if self.layout.edition == 113 { 12 } else { 49 };
-        self.list(Kind::Format, k, width);
-        self.list(Kind::LabelSet, k, 33);
-        self.list(Kind::VariableLabel, k, 81);
+        self.lists(|walk, list| list(walk));
         while self.at < self.layout.positions[9] as usize {
             let start = self.at;
             self.part(Kind::BlockType, 1);
@@ -204,7 +216,7 @@ impl Walk<'_> {
         }
     }
 
-    // Edition 117.
+    // Editions 117 and 118.
 
     fn tagged(&mut self) {
         let k = self.k();
@@ -214,19 +226,16 @@ impl Walk<'_> {
         self.part(Kind::Edition, 3);
         self.tag();
         self.between(|walk| walk.part(Kind::ByteOrder, 3));
-        self.between(|walk| walk.part(Kind::K, 2));
-        self.between(|walk| walk.part(Kind::N, 4));
-        self.between(|walk| walk.short_text(Kind::LabelLength, Kind::Label));
-        self.between(|walk| walk.short_text(Kind::StampLength, Kind::Stamp));
+        self.between(|walk| walk.part(Kind::K, K_WIDTH));
+        self.between(|walk| walk.part(Kind::N, walk.edition.n));
+        let label_length = self.edition.label_length;
+        self.between(|walk| walk.short_text(Kind::LabelLength, label_length, Kind::Label));
+        self.between(|walk| walk.short_text(Kind::StampLength, 1, Kind::Stamp));
         self.tag();
         self.between(|walk| walk.list(Kind::Map, 14, 8));
         let mut types = Vec::new();
         self.between(|walk| types = (0..k).map(|_| walk.number(Kind::Type, 2)).collect());
-        self.between(|walk| walk.list(Kind::Name, k, 33));
-        self.between(|walk| walk.list(Kind::Sort, k + 1, 2));
-        self.between(|walk| walk.list(Kind::Format, k, 49));
-        self.between(|walk| walk.list(Kind::LabelSet, k, 33));
-        self.between(|walk| walk.list(Kind::VariableLabel, k, 81));
+        self.lists(|walk, list| walk.between(list));
         self.between(Walk::characteristics);
         self.between(|walk| walk.data(&types));
         self.between(Walk::records);
@@ -246,8 +255,8 @@ impl Walk<'_> {
         self.tag();
     }
 
-    fn short_text(&mut self, length: Kind, text: Kind) {
-        let length = self.number(length, 1);
+    fn short_text(&mut self, length: Kind, width: usize, text: Kind) {
+        let length = self.number(length, width);
         self.part(text, length);
     }
 
@@ -266,8 +275,8 @@ impl Walk<'_> {
         while self.mark_is_next("GSO") {
             let start = self.at;
             self.part(Kind::Mark, 3);
-            self.part(Kind::RecordV, 4);
-            self.part(Kind::RecordO, 4);
+            self.part(Kind::RecordV, RECORD_V);
+            self.part(Kind::RecordO, self.edition.record_o);
             self.part(Kind::RecordKind, 1);
             let length = self.number(Kind::RecordLength, 4);
             self.part(Kind::Contents, length);

@@ -1,6 +1,7 @@
 //! What a file says at the places that a layout gives, whichever file and layout they are.
 //! Written from the paper alone, to test the proved answers.
 
+use crate::edition::{Edition, K_WIDTH, RECORD_V, SORT_WIDTH};
 use crate::generate::Order;
 use crate::Layout;
 
@@ -141,7 +142,7 @@ pub enum Cell {
     Between,
     Outside,
     Text(Span),
-    Reference { v: u32, o: u32 },
+    Reference { v: u64, o: u64 },
 }
 
 #[derive(Clone, Copy, Debug, PartialEq, Eq)]
@@ -226,12 +227,7 @@ pub fn answer(file: &[u8], layout: &Numbers, question: Question) -> Result<Answe
     if !question.in_range(k, n) {
         return Err(Why::Range);
     }
-    let edition = match edition {
-        113 => Edition::E113,
-        114 => Edition::E114,
-        117 => Edition::E117,
-        _ => return Err(Why::Edition),
-    };
+    let edition = Edition::of(edition).ok_or(Why::Edition)?;
     let order = match order {
         1 => Order::Msf,
         2 => Order::Lsf,
@@ -252,10 +248,12 @@ pub fn answer(file: &[u8], layout: &Numbers, question: Question) -> Result<Answe
         Question::Label => Answer::Text(view.label()?),
         Question::Stamp => Answer::Text(view.stamp()?),
         Question::Type(i) => Answer::Type(view.type_of(i)?),
-        Question::Name(i) => Answer::Text(view.text(&NAMES, 33, i)?),
+        Question::Name(i) => Answer::Text(view.text(&NAMES, edition.name, i)?),
         Question::Format(i) => Answer::Text(view.format(i)?),
         Question::Set(i) => Answer::Text(view.set(i)?),
-        Question::VarLabel(i) => Answer::Text(view.text(&VARIABLE_LABELS, 81, i)?),
+        Question::VarLabel(i) => {
+            Answer::Text(view.text(&VARIABLE_LABELS, edition.variable_label, i)?)
+        }
         Question::Date(i) => {
             let format = view.format(i)?;
             Answer::Date(view.named(format).starts_with(b"%t"))
@@ -278,13 +276,6 @@ pub fn answer(file: &[u8], layout: &Numbers, question: Question) -> Result<Answe
 /// A number that the file's length bounds.
 fn stored(number: u128) -> u64 {
     number.try_into().expect("a number of 64 bits")
-}
-
-#[derive(Clone, Copy, PartialEq, Eq)]
-enum Edition {
-    E113,
-    E114,
-    E117,
 }
 
 /// A part of the file, by its index among the positions and its tag.
@@ -340,7 +331,7 @@ struct Column {
 /// A file read with a layout of a known edition and byte order. Places are whole numbers that never wrap.
 struct View<'a> {
     file: &'a [u8],
-    edition: Edition,
+    edition: &'static Edition,
     order: Order,
     k: u64,
     positions: &'a [u64],
@@ -350,7 +341,7 @@ impl<'a> View<'a> {
     // Places.
 
     fn tagged(&self) -> bool {
-        self.edition == Edition::E117
+        self.edition.tagged
     }
 
     /// `<tag>`, of no bytes in an old edition.
@@ -414,33 +405,43 @@ impl<'a> View<'a> {
         Ok(span(place, width))
     }
 
-    /// A length byte, then the text.
-    fn short_text(&self, place: u128) -> Result<Span, Why> {
-        let length = u128::from(self.number(place, 1)?);
-        self.bytes(place + 1, length)?;
-        Ok(span(place + 1, length))
+    /// A length of that width, then the text.
+    fn short_text(&self, place: u128, width: usize) -> Result<Span, Why> {
+        let width = width as u128;
+        let length = u128::from(self.number(place, width)?);
+        self.bytes(place + width, length)?;
+        Ok(span(place + width, length))
     }
 
     // The header.
 
+    /// Where the length of a tagged edition's dataset label stands.
+    fn label_place(&self) -> u128 {
+        let tags = "<byteorder>MSF</byteorder><K></K><N></N><label>";
+        (self.edition.opening().len() + tags.len() + K_WIDTH + self.edition.n) as u128
+    }
+
     fn label(&self) -> Result<Span, Why> {
         match self.tagged() {
-            true => self.short_text(94),
-            false => self.field(10, 81),
+            true => self.short_text(self.label_place(), self.edition.label_length),
+            false => self.field(10, self.edition.most_label as u128 + 1),
         }
     }
 
     fn stamp(&self) -> Result<Span, Why> {
-        match self.tagged() {
-            true => self.short_text(114 + u128::from(self.number(94, 1)?)),
-            false => self.field(91, 18),
+        if !self.tagged() {
+            return self.field(91, 18);
         }
+        let width = self.edition.label_length as u128;
+        let length = u128::from(self.number(self.label_place(), width)?);
+        let tags = "</label><timestamp>".len() as u128;
+        self.short_text(self.label_place() + width + length + tags, 1)
     }
 
     // Variables.
 
     fn type_of(&self, i: u64) -> Result<Type, Why> {
-        let width = if self.tagged() { 2 } else { 1 };
+        let width = self.edition.code() as u128;
         let place = self.entry(&TYPES, width, u128::from(i));
         let code = self.number(place, width)?;
         let (kind, width) = match (self.tagged(), code) {
@@ -456,25 +457,23 @@ impl<'a> View<'a> {
         Ok(Type { kind, width })
     }
 
-    fn text(&self, part: &Part, width: u128, i: u64) -> Result<Span, Why> {
+    fn text(&self, part: &Part, width: usize, i: u64) -> Result<Span, Why> {
+        let width = width as u128;
         self.field(self.entry(part, width, u128::from(i)), width)
     }
 
     fn format(&self, i: u64) -> Result<Span, Why> {
-        let width = match self.edition {
-            Edition::E113 => 12,
-            Edition::E114 | Edition::E117 => 49,
-        };
-        self.text(&FORMATS, width, i)
+        self.text(&FORMATS, self.edition.format, i)
     }
 
     fn set(&self, i: u64) -> Result<Span, Why> {
-        self.text(&SETS, 33, i)
+        self.text(&SETS, self.edition.name, i)
     }
 
     fn sort_place(&self, i: u64) -> Result<u64, Why> {
         for place in 1..=u128::from(self.k) + 1 {
-            let entry = self.number(self.entry(&SORT_LIST, 2, place), 2)?;
+            let width = SORT_WIDTH as u128;
+            let entry = self.number(self.entry(&SORT_LIST, width, place), width)?;
             if entry == 0 {
                 return Ok(0);
             }
@@ -508,10 +507,13 @@ impl<'a> View<'a> {
         let number = || self.number(place, width);
         Ok(match of.kind {
             Kind::Text => Cell::Text(self.field(place, width)?),
-            Kind::Strl => Cell::Reference {
-                v: self.number(place, 4)? as u32,
-                o: self.number(place + 4, 4)? as u32,
-            },
+            Kind::Strl => {
+                let [v, o] = [self.edition.cell_v, self.edition.cell_o].map(|width| width as u128);
+                Cell::Reference {
+                    v: self.number(place, v)?,
+                    o: self.number(place + v, o)?,
+                }
+            }
             Kind::Byte => whole(i32::from(number()? as u8 as i8), 100),
             Kind::Int => whole(i32::from(number()? as u16 as i16), 32_740),
             Kind::Long => whole(number()? as u32 as i32, LARGEST),
@@ -529,14 +531,20 @@ impl<'a> View<'a> {
         }
         let (mut at, end) = (self.start(&STRLS), self.end(&STRLS));
         while at < end {
-            let name = (self.number(at + 3, 4)?, self.number(at + 7, 4)?);
-            let kind = self.number(at + 11, 1)? as u8;
-            let length = u128::from(self.number(at + 12, 4)?);
-            let contents = at + 16;
+            let [v_width, o_width] = [RECORD_V, self.edition.record_o].map(|width| width as u128);
+            let o_place = at + 3 + v_width;
+            let name = (
+                self.number(at + 3, v_width)?,
+                self.number(o_place, o_width)?,
+            );
+            let kind_place = o_place + o_width;
+            let kind = self.number(kind_place, 1)? as u8;
+            let length = u128::from(self.number(kind_place + 1, 4)?);
+            let contents = kind_place + 5;
             if contents + length > end {
                 return Err(Why::Record);
             }
-            if name == (u64::from(v), u64::from(o)) {
+            if name == (v, o) {
                 self.bytes(contents, length)?;
                 let contents = span(contents, length);
                 return Ok(Answer::Long { kind, contents });
@@ -568,12 +576,13 @@ impl<'a> View<'a> {
         while at < end {
             let head = at + self.opening(BLOCK_TAG);
             let length = u128::from(self.number(head, 4)?);
-            let block_name = self.field(head + 4, 33)?;
-            at = head + 40 + length + self.closing(BLOCK_TAG);
+            let block_name = self.field(head + 4, self.edition.name as u128)?;
+            let table = head + self.edition.block_head() as u128;
+            at = table + length + self.closing(BLOCK_TAG);
             if at > end {
                 return Err(Why::Block);
             }
-            let table = self.table(head + 40, length)?;
+            let table = self.table(table, length)?;
             if self.named(block_name) == name {
                 return Ok(Some(table));
             }

@@ -1,5 +1,6 @@
 //! Checking a .dta file: its layout, or its refusal by number, place and words.
 
+use crate::edition::{Edition, EDITIONS, K_WIDTH, OLD_HEADER, RECORD_V, SORT_WIDTH};
 use std::fmt::{self, Display};
 use std::ops::Range;
 
@@ -8,8 +9,6 @@ const BOUND: u64 = 2_147_483_647;
 const MOST_VARIABLES: u64 = 32_767;
 const MOST_ENTRIES: u64 = 65_536;
 const MOST_LABEL_TEXT: u64 = 5_308_416;
-
-const OPENING: &[u8] = b"<stata_dta><header><release>117</release>";
 
 /// Why a file is refused, and where.
 #[derive(Clone, Debug, PartialEq, Eq)]
@@ -48,7 +47,7 @@ fn refuse<T>(number: u8, place: u64, what: impl Into<String>) -> Result<T, Refus
 /// What an accepted file is, and where its parts start.
 #[derive(Clone, Debug, PartialEq, Eq)]
 pub struct Layout {
-    /// 113, 114 or 117.
+    /// 113, 114, 115, 117 or 118.
     pub edition: u8,
     /// 1 most significant byte first, 2 least.
     pub byte_order: u8,
@@ -73,18 +72,40 @@ pub fn explain(file: &[u8]) -> Result<Layout, Refusal> {
             "the file is longer than 2,147,483,647 bytes",
         );
     }
-    match file.first() {
-        Some(&edition @ (113 | 114)) => check_old(file, edition),
-        Some(_) if file.starts_with(OPENING) => check_117(file),
-        _ => refuse(
-            NOT_DTA,
-            0,
-            format!(
-                "the file starts with none of byte 113, byte 114, and the 41 bytes {}",
-                OPENING.escape_ascii()
-            ),
-        ),
+    match EDITIONS.iter().find(|edition| begins(file, edition)) {
+        Some(edition) if edition.tagged => check_tagged(file, edition),
+        Some(edition) => check_old(file, edition),
+        None => refuse(NOT_DTA, 0, other_beginning(file)),
     }
+}
+
+/// Whether a file starts as one of that edition does.
+fn begins(file: &[u8], edition: &Edition) -> bool {
+    match edition.tagged {
+        true => file.starts_with(edition.opening().as_bytes()),
+        false => file.first() == Some(&edition.number),
+    }
+}
+
+/// What is wrong with a file that starts as one of no edition.
+fn other_beginning(file: &[u8]) -> String {
+    let what = "the file starts with none of bytes 113, 114, 115 and the 41 bytes \
+                <stata_dta><header><release>117</release>, or the same with 118";
+    match release(file) {
+        Some(release) => format!("{what}; its release is {release}, which isn't read"),
+        None => what.to_string(),
+    }
+}
+
+/// The digits of a tagged file of another edition.
+fn release(file: &[u8]) -> Option<&str> {
+    let rest = file.strip_prefix(b"<stata_dta><header><release>")?;
+    let digits = rest
+        .get(..3)
+        .filter(|digits| digits.iter().all(u8::is_ascii_digit))?;
+    rest[3..]
+        .starts_with(b"</release>")
+        .then(|| std::str::from_utf8(digits).unwrap_or_default())
 }
 
 /// `edition MSF|LSF K N length`, or `refused NUMBER`.
@@ -248,6 +269,26 @@ const FORMAT: &str = "display format";
 const LABEL_SET_NAME: &str = "label-set name";
 const VARIABLE_LABEL: &str = "variable label";
 
+/// What a header says that the rest is read by.
+#[derive(Clone, Copy)]
+struct Header {
+    order: ByteOrder,
+    k: u64,
+    n: u64,
+}
+
+impl Header {
+    fn layout(self, edition: &Edition, positions: [u64; 14]) -> Layout {
+        Layout {
+            edition: edition.number,
+            byte_order: self.order.code(),
+            k: self.k as u16,
+            n: self.n as u32,
+            positions,
+        }
+    }
+}
+
 fn has_zero(bytes: &[u8]) -> bool {
     bytes.contains(&0)
 }
@@ -298,6 +339,11 @@ fn check_name(field: Part, owner: impl Display) -> Result<(), Refusal> {
     check_text(field, format_args!("the name of {owner}"))
 }
 
+/// The widths of names, of display formats and of variable labels.
+fn text_widths(edition: &Edition) -> [u64; 3] {
+    [edition.name, edition.format, edition.variable_label].map(|width| width as u64)
+}
+
 /// A text of each variable.
 fn check_texts(cursor: &mut Cursor, k: u64, width: u64, name: &str) -> Result<(), Refusal> {
     let fields = cursor.take(width * k, format_args!("the {name}s need"))?;
@@ -308,9 +354,9 @@ fn check_texts(cursor: &mut Cursor, k: u64, width: u64, name: &str) -> Result<()
 }
 
 /// The name of each variable.
-fn check_names(cursor: &mut Cursor, k: u64) -> Result<(), Refusal> {
-    let fields = cursor.take(33 * k, "the names need")?;
-    for (variable, field) in fields.items(33) {
+fn check_names(cursor: &mut Cursor, k: u64, width: u64) -> Result<(), Refusal> {
+    let fields = cursor.take(width * k, "the names need")?;
+    for (variable, field) in fields.items(width as usize) {
         check_name(field, format_args!("variable {variable}"))?;
     }
     Ok(())
@@ -318,10 +364,10 @@ fn check_names(cursor: &mut Cursor, k: u64) -> Result<(), Refusal> {
 
 /// Distinct variable numbers up to the first zero, which must exist.
 fn check_sort_list(cursor: &mut Cursor, k: u64, order: ByteOrder) -> Result<(), Refusal> {
-    let list = cursor.take(2 * (k + 1), "the sort list needs")?;
+    let list = cursor.take(SORT_WIDTH as u64 * (k + 1), "the sort list needs")?;
     let mut seen = vec![false; k as usize + 1];
-    let end = 2 * k as usize;
-    for (number, entry) in list.part(0..end).items(2) {
+    let end = SORT_WIDTH * k as usize;
+    for (number, entry) in list.part(0..end).items(SORT_WIDTH) {
         let variable = entry.number(order);
         if variable == 0 {
             return Ok(());
@@ -337,7 +383,7 @@ fn check_sort_list(cursor: &mut Cursor, k: u64, order: ByteOrder) -> Result<(), 
         seen[variable as usize] = true;
     }
     // All K variables are listed by now.
-    let last = list.part(end..end + 2);
+    let last = list.part(end..end + SORT_WIDTH);
     match last.number(order) {
         0 => Ok(()),
         variable => {
@@ -348,12 +394,20 @@ fn check_sort_list(cursor: &mut Cursor, k: u64, order: ByteOrder) -> Result<(), 
 }
 
 /// One label block without its tags.
-fn check_label_block(cursor: &mut Cursor, order: ByteOrder, block: u64) -> Result<(), Refusal> {
+fn check_label_block(
+    cursor: &mut Cursor,
+    edition: &Edition,
+    order: ByteOrder,
+    block: u64,
+) -> Result<(), Refusal> {
     let head = cursor.take(
-        40,
+        edition.block_head() as u64,
         format_args!("the length, name and padding of label block {block} need"),
     )?;
-    check_name(head.part(4..37), format_args!("label block {block}"))?;
+    check_name(
+        head.part(4..4 + edition.name),
+        format_args!("label block {block}"),
+    )?;
     let table = cursor.take(
         head.part(0..4).number(order),
         format_args!("the table of label block {block} needs"),
@@ -428,33 +482,28 @@ fn check_values(values: Part, order: ByteOrder) -> Result<(), Refusal> {
     Ok(())
 }
 
-// Editions 113 and 114.
+// Editions 113, 114 and 115.
 
-struct OldHeader {
-    order: ByteOrder,
-    k: u64,
-    n: u64,
-}
-
-fn check_old(file: &[u8], edition: u8) -> Result<Layout, Refusal> {
+fn check_old(file: &[u8], edition: &Edition) -> Result<Layout, Refusal> {
     let mut cursor = Cursor { file, at: 0 };
     let mut positions = [0; 14];
-    let OldHeader { order, k, n } = old_header(cursor.take(109, "the header needs")?)?;
-    let format_width = if edition == 113 { 12 } else { 49 };
+    let header = old_header(cursor.take(OLD_HEADER as u64, "the header needs")?)?;
+    let Header { order, k, n } = header;
+    let [name, format, label] = text_widths(edition);
 
     positions[1] = cursor.position();
     positions[2] = cursor.position();
     let width = old_observation_width(cursor.take(k, TYPES_NEED)?)?;
     positions[3] = cursor.position();
-    check_names(&mut cursor, k)?;
+    check_names(&mut cursor, k, name)?;
     positions[4] = cursor.position();
     check_sort_list(&mut cursor, k, order)?;
     positions[5] = cursor.position();
-    check_texts(&mut cursor, k, format_width, FORMAT)?;
+    check_texts(&mut cursor, k, format, FORMAT)?;
     positions[6] = cursor.position();
-    check_texts(&mut cursor, k, 33, LABEL_SET_NAME)?;
+    check_texts(&mut cursor, k, name, LABEL_SET_NAME)?;
     positions[7] = cursor.position();
-    check_texts(&mut cursor, k, 81, VARIABLE_LABEL)?;
+    check_texts(&mut cursor, k, label, VARIABLE_LABEL)?;
     positions[8] = cursor.position();
     skip_expansion_blocks(&mut cursor, order)?;
     positions[9] = cursor.position();
@@ -463,21 +512,15 @@ fn check_old(file: &[u8], edition: u8) -> Result<Layout, Refusal> {
     positions[11] = cursor.position();
     let mut block = 1;
     while !cursor.at_end() {
-        check_label_block(&mut cursor, order, block)?;
+        check_label_block(&mut cursor, edition, order, block)?;
         block += 1;
     }
     positions[12] = cursor.position();
     positions[13] = cursor.position();
-    Ok(Layout {
-        edition,
-        byte_order: order.code(),
-        k: k as u16,
-        n: n as u32,
-        positions,
-    })
+    Ok(header.layout(edition, positions))
 }
 
-fn old_header(header: Part) -> Result<OldHeader, Refusal> {
+fn old_header(header: Part) -> Result<Header, Refusal> {
     let order = match header.bytes[1] {
         1 => ByteOrder::Msf,
         2 => ByteOrder::Lsf,
@@ -499,7 +542,7 @@ fn old_header(header: Part) -> Result<OldHeader, Refusal> {
         return refuse(HEADER, label.start, what);
     }
     check_old_stamp(header.part(91..109))?;
-    Ok(OldHeader { order, k, n })
+    Ok(Header { order, k, n })
 }
 
 fn check_old_stamp(stamp: Part) -> Result<(), Refusal> {
@@ -555,115 +598,153 @@ fn skip_expansion_blocks(cursor: &mut Cursor, order: ByteOrder) -> Result<(), Re
     Ok(())
 }
 
-// Edition 117.
+// Editions 117 and 118.
 
-fn check_117(file: &[u8]) -> Result<Layout, Refusal> {
+fn check_tagged(file: &[u8], edition: &Edition) -> Result<Layout, Refusal> {
     let mut cursor = Cursor {
         file,
-        at: OPENING.len(),
+        at: edition.opening().len(),
     };
-    let mut positions = [0; 14];
-    let order = byte_order_117(&mut cursor)?;
-    cursor.tag("<K>")?;
-    let k = check_k(cursor.take(2, "K needs")?, order)?;
-    cursor.tag("</K>")?;
-    cursor.tag("<N>")?;
-    let n = check_n(cursor.take(4, "N needs")?, order, k)?;
-    cursor.tag("</N>")?;
-    cursor.tag("<label>")?;
-    short_text(&mut cursor, "dataset label", "at most 80", |length| {
-        length <= 80
+    let header = tagged_header(&mut cursor, edition)?;
+    let Header { order, k, n } = header;
+    let mut parts = TaggedParts {
+        cursor,
+        positions: vec![0],
+    };
+    let map = parts.part("map", |cursor| cursor.take(14 * 8, "the map needs"))?;
+    let variables = parts.part("variable_types", |cursor| {
+        Variables::new(cursor.take(edition.code() as u64 * k, TYPES_NEED)?, order)
     })?;
-    cursor.tag("</label>")?;
-    cursor.tag("<timestamp>")?;
-    short_text(&mut cursor, "stamp", "0 or 17", |length| {
-        length == 0 || length == 17
+    check_lists(&mut parts, edition, header)?;
+    parts.items("characteristics", "<ch>", |cursor| {
+        skip_characteristics(cursor, order)
     })?;
-    cursor.tag("</timestamp>")?;
-    cursor.tag("</header>")?;
-
-    positions[1] = cursor.position();
-    cursor.tag("<map>")?;
-    let map = cursor.take(14 * 8, "the map needs")?;
-    cursor.tag("</map>")?;
-
-    positions[2] = cursor.position();
-    cursor.tag("<variable_types>")?;
-    let variables = Variables::new(cursor.take(2 * k, TYPES_NEED)?, order)?;
-    cursor.tag("</variable_types>")?;
-
-    positions[3] = cursor.position();
-    cursor.tag("<varnames>")?;
-    check_names(&mut cursor, k)?;
-    cursor.tag("</varnames>")?;
-
-    positions[4] = cursor.position();
-    cursor.tag("<sortlist>")?;
-    check_sort_list(&mut cursor, k, order)?;
-    cursor.tag("</sortlist>")?;
-
-    positions[5] = cursor.position();
-    cursor.tag("<formats>")?;
-    check_texts(&mut cursor, k, 49, FORMAT)?;
-    cursor.tag("</formats>")?;
-
-    positions[6] = cursor.position();
-    cursor.tag("<value_label_names>")?;
-    check_texts(&mut cursor, k, 33, LABEL_SET_NAME)?;
-    cursor.tag("</value_label_names>")?;
-
-    positions[7] = cursor.position();
-    cursor.tag("<variable_labels>")?;
-    check_texts(&mut cursor, k, 81, VARIABLE_LABEL)?;
-    cursor.tag("</variable_labels>")?;
-
-    positions[8] = cursor.position();
-    cursor.tag("<characteristics>")?;
-    skip_characteristics(&mut cursor, order)?;
-    cursor.tag_after("<ch>", "</characteristics>")?;
-
-    positions[9] = cursor.position();
-    cursor.tag("<data>")?;
-    let cells = cursor.take(n * variables.width, OBSERVATIONS_NEED)?;
-    cursor.tag("</data>")?;
-
-    positions[10] = cursor.position();
-    cursor.tag("<strls>")?;
+    let cells = parts.part("data", |cursor| {
+        cursor.take(n * variables.width, OBSERVATIONS_NEED)
+    })?;
     let data = Data {
+        edition,
         cells,
         order,
         n,
         variables,
     };
-    check_strls(&mut cursor, &data)?;
-    cursor.tag_after("GSO", "</strls>")?;
-
-    positions[11] = cursor.position();
-    cursor.tag("<value_labels>")?;
-    let mut block = 1;
-    while cursor.mark("<lbl>") {
-        check_label_block(&mut cursor, order, block)?;
-        cursor.tag("</lbl>")?;
-        block += 1;
-    }
-    cursor.tag_after("<lbl>", "</value_labels>")?;
-
-    positions[12] = cursor.position();
-    cursor.tag("</stata_dta>")?;
-    positions[13] = cursor.position();
-
-    check_end(&cursor)?;
+    parts.items("strls", "GSO", |cursor| check_strls(cursor, &data))?;
+    parts.items("value_labels", "<lbl>", |cursor| {
+        check_label_blocks(cursor, edition, order)
+    })?;
+    let positions = parts.end()?;
     check_map(map, &positions, order)?;
-    Ok(Layout {
-        edition: 117,
-        byte_order: order.code(),
-        k: k as u16,
-        n: n as u32,
-        positions,
+    Ok(header.layout(edition, positions))
+}
+
+/// The parts after the header, and where each starts.
+struct TaggedParts<'a> {
+    cursor: Cursor<'a>,
+    positions: Vec<u64>,
+}
+
+impl<'a> TaggedParts<'a> {
+    /// The next part, between its tags.
+    fn part<T>(
+        &mut self,
+        tag: &str,
+        contents: impl FnOnce(&mut Cursor<'a>) -> Result<T, Refusal>,
+    ) -> Result<T, Refusal> {
+        let found = self.opened(tag, contents)?;
+        self.cursor.tag(&format!("</{tag}>"))?;
+        Ok(found)
+    }
+
+    /// As `part`; where its closing tag is due, an item with that mark might stand, too.
+    fn items(
+        &mut self,
+        tag: &str,
+        mark: &str,
+        contents: impl FnOnce(&mut Cursor<'a>) -> Result<(), Refusal>,
+    ) -> Result<(), Refusal> {
+        self.opened(tag, contents)?;
+        self.cursor.tag_after(mark, &format!("</{tag}>"))
+    }
+
+    fn opened<T>(
+        &mut self,
+        tag: &str,
+        contents: impl FnOnce(&mut Cursor<'a>) -> Result<T, Refusal>,
+    ) -> Result<T, Refusal> {
+        self.positions.push(self.cursor.position());
+        self.cursor.tag(&format!("<{tag}>"))?;
+        contents(&mut self.cursor)
+    }
+
+    /// The last tag and the end of the file; all positions.
+    fn end(mut self) -> Result<[u64; 14], Refusal> {
+        self.positions.push(self.cursor.position());
+        self.cursor.tag("</stata_dta>")?;
+        self.positions.push(self.cursor.position());
+        check_end(&self.cursor)?;
+        Ok(self.positions.try_into().expect("fourteen positions"))
+    }
+}
+
+/// From the names to the variable labels.
+fn check_lists(parts: &mut TaggedParts, edition: &Edition, header: Header) -> Result<(), Refusal> {
+    let Header { order, k, .. } = header;
+    let [name, format, label] = text_widths(edition);
+    parts.part("varnames", |cursor| check_names(cursor, k, name))?;
+    parts.part("sortlist", |cursor| check_sort_list(cursor, k, order))?;
+    parts.part("formats", |cursor| check_texts(cursor, k, format, FORMAT))?;
+    parts.part("value_label_names", |cursor| {
+        check_texts(cursor, k, name, LABEL_SET_NAME)
+    })?;
+    parts.part("variable_labels", |cursor| {
+        check_texts(cursor, k, label, VARIABLE_LABEL)
     })
 }
 
-fn byte_order_117(cursor: &mut Cursor) -> Result<ByteOrder, Refusal> {
+fn check_label_blocks(
+    cursor: &mut Cursor,
+    edition: &Edition,
+    order: ByteOrder,
+) -> Result<(), Refusal> {
+    let mut block = 1;
+    while cursor.mark("<lbl>") {
+        check_label_block(cursor, edition, order, block)?;
+        cursor.tag("</lbl>")?;
+        block += 1;
+    }
+    Ok(())
+}
+
+/// From behind the 41 bytes to the map.
+fn tagged_header(cursor: &mut Cursor, edition: &Edition) -> Result<Header, Refusal> {
+    let order = byte_order_tagged(cursor)?;
+    cursor.tag("<K>")?;
+    let k = check_k(cursor.take(K_WIDTH as u64, "K needs")?, order)?;
+    cursor.tag("</K>")?;
+    cursor.tag("<N>")?;
+    let n = check_n(cursor.take(edition.n as u64, "N needs")?, order, k)?;
+    cursor.tag("</N>")?;
+    cursor.tag("<label>")?;
+    let most = edition.most_label as u64;
+    let length = cursor.take(
+        edition.label_length as u64,
+        "the length of the dataset label needs",
+    )?;
+    let rule = format!("at most {most}");
+    let right = length.number(order) <= most;
+    short_text(cursor, "dataset label", length, order, right, &rule)?;
+    cursor.tag("</label>")?;
+    cursor.tag("<timestamp>")?;
+    let length = cursor.take(1, "the length of the stamp needs")?;
+    let right = [0, 17].contains(&length.number(order));
+    short_text(cursor, "stamp", length, order, right, "0 or 17")?;
+    cursor.tag("</timestamp>")?;
+    cursor.tag("</header>")?;
+    Ok(Header { order, k, n })
+}
+
+fn byte_order_tagged(cursor: &mut Cursor) -> Result<ByteOrder, Refusal> {
     cursor.tag("<byteorder>")?;
     let field = cursor.take(3, "the byte order needs")?;
     let order = match field.bytes {
@@ -679,20 +760,21 @@ fn byte_order_117(cursor: &mut Cursor) -> Result<ByteOrder, Refusal> {
     Ok(order)
 }
 
-/// The dataset label or the stamp: a length byte, then bytes none of which is zero.
+/// The dataset label or the stamp: a length that is right or not, then bytes none of which is zero.
 fn short_text(
     cursor: &mut Cursor,
     name: &str,
+    field: Part,
+    order: ByteOrder,
+    right: bool,
     rule: &str,
-    length_right: impl Fn(u8) -> bool,
 ) -> Result<(), Refusal> {
-    let field = cursor.take(1, format_args!("the length of the {name} needs"))?;
-    let length = field.bytes[0];
-    if !length_right(length) {
+    let length = field.number(order);
+    if !right {
         let what = format!("the length of the {name} is {length}, and must be {rule}");
         return refuse(HEADER, field.start, what);
     }
-    let text = cursor.take(u64::from(length), format_args!("the {name} needs"))?;
+    let text = cursor.take(length, format_args!("the {name} needs"))?;
     if let Some(zero) = text.bytes.iter().position(|byte| *byte == 0) {
         let what = format!("byte {} of the {name} is zero, and none may be", zero + 1);
         return refuse(HEADER, field.start, what);
@@ -757,7 +839,7 @@ fn check_map(map: Part, positions: &[u64; 14], order: ByteOrder) -> Result<(), R
 
 const STRL_TYPE: u64 = 32768;
 
-/// The variables of a 117 file, as far as strLs need them.
+/// The variables of a tagged file, as far as strLs need them.
 struct Variables {
     /// For each variable, its place in an observation if it is strL.
     strl_places: Vec<Option<u64>>,
@@ -808,10 +890,12 @@ struct Reference {
 impl Reference {
     const EMPTY: Reference = Reference { v: 0, o: 0 };
 
-    fn read(bytes: &[u8], order: ByteOrder) -> Reference {
+    /// Two numbers beside each other, the first of that width.
+    fn read(bytes: &[u8], v_width: usize, order: ByteOrder) -> Reference {
+        let (v, o) = bytes.split_at(v_width);
         Reference {
-            v: order.number(&bytes[..4]),
-            o: order.number(&bytes[4..8]),
+            v: order.number(v),
+            o: order.number(o),
         }
     }
 
@@ -828,6 +912,7 @@ impl Display for Reference {
 }
 
 struct Data<'a> {
+    edition: &'a Edition,
     cells: Part<'a>,
     order: ByteOrder,
     n: u64,
@@ -838,7 +923,12 @@ impl Data<'_> {
     /// The bytes of the cell at that place in that observation.
     fn cell(&self, o: u64, place: u64) -> Part<'_> {
         let start = ((o - 1) * self.variables.width + place) as usize;
-        self.cells.part(start..start + 8)
+        let width = self.edition.cell_v + self.edition.cell_o;
+        self.cells.part(start..start + width)
+    }
+
+    fn read(&self, cell: Part) -> Reference {
+        Reference::read(cell.bytes, self.edition.cell_v, self.order)
     }
 
     /// What the cell holds; nothing where there is no such cell of a strL.
@@ -847,8 +937,7 @@ impl Data<'_> {
             return None;
         }
         let place = (*self.variables.strl_places.get(cell.v as usize - 1)?)?;
-        let cell = self.cell(cell.o, place);
-        Some(Reference::read(cell.bytes, self.order))
+        Some(self.read(self.cell(cell.o, place)))
     }
 
     fn names_itself(&self, cell: Reference) -> bool {
@@ -867,6 +956,7 @@ struct Record<'a> {
 /// The records from a place on.
 #[derive(Clone)]
 struct Records<'a> {
+    edition: &'a Edition,
     cursor: Cursor<'a>,
     order: ByteOrder,
     /// Of the next one, counted from 1.
@@ -883,25 +973,27 @@ impl<'a> Records<'a> {
         let number = self.number;
         self.number += 1;
         let head = self.cursor.take(
-            13,
+            self.edition.record_head() as u64,
             format_args!("the reference, kind and length of record {number} need"),
         )?;
+        let kind = RECORD_V + self.edition.record_o;
         let contents = self.cursor.take(
-            head.part(9..13).number(self.order),
+            head.part(kind + 1..kind + 5).number(self.order),
             format_args!("the contents of record {number} need"),
         )?;
         Ok(Some(Record {
             start,
-            name: Reference::read(head.bytes, self.order),
-            kind: head.bytes[8],
+            name: Reference::read(&head.bytes[..kind], RECORD_V, self.order),
+            kind: head.bytes[kind],
             contents: contents.bytes,
         }))
     }
 }
 
 /// All records are walked over before the first is judged. A wrong cell is named before a wrong record.
-fn check_strls(cursor: &mut Cursor, data: &Data) -> Result<(), Refusal> {
+fn check_strls<'a>(cursor: &mut Cursor<'a>, data: &Data<'a>) -> Result<(), Refusal> {
     let mut records = Records {
+        edition: data.edition,
         cursor: *cursor,
         order: data.order,
         number: 1,
@@ -928,7 +1020,7 @@ fn check_strls(cursor: &mut Cursor, data: &Data) -> Result<(), Refusal> {
 
 /// A reference that isn't empty names a cell that names itself, at or before its own.
 fn check_strl_cell(cell: Reference, field: Part, data: &Data) -> Result<Reference, Refusal> {
-    let reference = Reference::read(field.bytes, data.order);
+    let reference = data.read(field);
     if reference == Reference::EMPTY {
         return Ok(reference);
     }

@@ -106,6 +106,9 @@ pub fn stored() -> (Vec<u8>, Vec<u8>) {
         "samples/foreign-113-lsf-dates.dta",
         "samples/readstat-117-lsf-strl.dta",
         "samples/pandas-117-msf-labels.dta",
+        "cases/115-lsf-sort-all.dta",
+        "cases/118-lsf-small.dta",
+        "cases/118-msf-strl-o-299.dta",
     ];
     let all = stated::all();
     let (mut sent, mut due) = (Vec::new(), Vec::new());

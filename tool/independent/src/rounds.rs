@@ -63,8 +63,8 @@ pub fn changed(name: &str, edition: u8, change: impl Fn(&mut Dataset)) -> Vec<u8
     write(&dataset, Target { edition, order })
 }
 
-/// The files of the stored run: dead bytes everywhere, letters, dates, label tables; a display format too long for 113, long strings,
-/// and a file that is not well formed.
+/// The files of the stored run: dead bytes everywhere, letters, dates, label tables; a display format too long for 113, a name too long for all but 118, long
+/// strings, and a file that is not well formed.
 fn stored_files() -> Vec<Vec<u8>> {
     let mut files = [
         "cases/113-lsf-typical.dta",
@@ -76,11 +76,17 @@ fn stored_files() -> Vec<Vec<u8>> {
         "samples/readstata13-117-lsf-compress-chars.dta",
         "samples/readstat-117-lsf-strl.dta",
         "cases/117-msf-typical.dta",
+        "cases/115-lsf-sort-all.dta",
+        "cases/118-lsf-small.dta",
+        "cases/118-msf-strl-o-299.dta",
     ]
     .map(stated_file)
     .to_vec();
     files.push(changed("cases/113-lsf-typical.dta", 114, |dataset| {
         dataset.variables[0].format = b"%12345678.9g".to_vec();
+    }));
+    files.push(changed("cases/118-lsf-small.dta", 118, |dataset| {
+        dataset.variables[0].name = b"a_name_of_more_than_thirty_two_bytes".to_vec();
     }));
     let mut cut = stated_file("samples/foreign-113-lsf-dates.dta");
     cut.pop();

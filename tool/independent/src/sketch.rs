@@ -1,5 +1,6 @@
 //! Small files put together by hand, by the paper.
 
+use crate::edition::{Edition, K_WIDTH, PADDING, RECORD_V, SORT_WIDTH, STAMP};
 use crate::generate::Order;
 use crate::questions::Kind;
 
@@ -65,10 +66,15 @@ impl Sketch {
         }
     }
 
+    fn widths(&self) -> &'static Edition {
+        Edition::known(self.edition)
+    }
+
     pub fn record(&mut self, v: u64, o: u64, kind: u8, contents: &[u8]) {
         self.records.extend(b"GSO");
-        self.records.extend(self.order.bytes(v, 4));
-        self.records.extend(self.order.bytes(o, 4));
+        self.records.extend(self.order.bytes(v, RECORD_V));
+        let width = self.widths().record_o;
+        self.records.extend(self.order.bytes(o, width));
         self.records.push(kind);
         self.records
             .extend(self.order.bytes(contents.len() as u64, 4));
@@ -76,8 +82,9 @@ impl Sketch {
     }
 
     pub fn reference(&mut self, v: u64, o: u64) {
-        self.data.extend(self.order.bytes(v, 4));
-        self.data.extend(self.order.bytes(o, 4));
+        let (v_width, o_width) = (self.widths().cell_v, self.widths().cell_o);
+        self.data.extend(self.order.bytes(v, v_width));
+        self.data.extend(self.order.bytes(o, o_width));
     }
 
     fn type_code(&self, kind: Kind) -> Vec<u8> {
@@ -90,15 +97,15 @@ impl Sketch {
             Kind::Float => (254, 65527),
             Kind::Double => (255, 65526),
         };
-        match self.edition {
-            117 => self.order.bytes(tagged, 2),
-            _ => vec![old],
+        match self.widths().tagged {
+            true => self.order.bytes(tagged, 2),
+            false => vec![old],
         }
     }
 
     /// The file's parts from the types on, but for characteristics.
     fn parts(&self) -> Vec<(&'static str, Vec<u8>)> {
-        let format_width = if self.edition == 113 { 12 } else { 49 };
+        let widths = self.widths();
         let fields = |width: usize, text: fn(&Variable) -> &'static str| {
             let fields = self.variables.iter().map(text);
             fields.flat_map(|text| field(text, width)).collect()
@@ -109,14 +116,20 @@ impl Sketch {
         sort_list.resize(self.variables.len() + 1, 0);
         let sort_list = sort_list
             .iter()
-            .flat_map(|entry| self.order.bytes(*entry, 2));
+            .flat_map(|entry| self.order.bytes(*entry, SORT_WIDTH));
         vec![
             ("variable_types", types.collect()),
-            ("varnames", fields(33, |variable| variable.name)),
+            ("varnames", fields(widths.name, |variable| variable.name)),
             ("sortlist", sort_list.collect()),
-            ("formats", fields(format_width, |variable| variable.format)),
-            ("value_label_names", fields(33, |variable| variable.set)),
-            ("variable_labels", fields(81, |variable| variable.label)),
+            ("formats", fields(widths.format, |variable| variable.format)),
+            (
+                "value_label_names",
+                fields(widths.name, |variable| variable.set),
+            ),
+            (
+                "variable_labels",
+                fields(widths.variable_label, |variable| variable.label),
+            ),
             ("characteristics", Vec::new()),
             ("data", self.data.clone()),
             ("strls", self.records.clone()),
@@ -125,15 +138,15 @@ impl Sketch {
     }
 
     fn label_blocks(&self) -> Vec<u8> {
-        let (opening, closing) = match self.edition {
-            117 => ("<lbl>", "</lbl>"),
-            _ => ("", ""),
+        let (opening, closing) = match self.widths().tagged {
+            true => ("<lbl>", "</lbl>"),
+            false => ("", ""),
         };
         let mut blocks = Vec::new();
         for (name, table) in &self.blocks {
             blocks.extend(opening.as_bytes());
             blocks.extend(self.order.bytes(table.len() as u64, 4));
-            blocks.extend(field(name, 36));
+            blocks.extend(field(name, self.widths().name + PADDING));
             blocks.extend(table);
             blocks.extend(closing.as_bytes());
         }
@@ -141,21 +154,24 @@ impl Sketch {
     }
 
     fn header(&self) -> Vec<u8> {
-        let (k, n) = (self.variables.len() as u64, self.n);
-        let (k, n) = (self.order.bytes(k, 2), self.order.bytes(n, 4));
+        let (k, n, widths) = (self.variables.len() as u64, self.n, self.widths());
+        let (k, n) = (self.order.bytes(k, K_WIDTH), self.order.bytes(n, widths.n));
         let msf = self.order == Order::Msf;
-        if self.edition != 117 {
+        if !widths.tagged {
             let start = vec![self.edition, if msf { 1 } else { 2 }, 1, 1];
-            return [start, k, n, field(self.label, 81), field(self.stamp, 18)].concat();
+            let label = field(self.label, widths.most_label + 1);
+            return [start, k, n, label, field(self.stamp, STAMP + 1)].concat();
         }
-        let mut header = b"<stata_dta><header><release>117</release><byteorder>".to_vec();
+        let mut header = widths.opening().into_bytes();
+        header.extend(b"<byteorder>");
         header.extend(if msf { b"MSF" } else { b"LSF" });
         header.extend(b"</byteorder><K>");
         header.extend(k);
         header.extend(b"</K><N>");
         header.extend(n);
         header.extend(b"</N><label>");
-        header.push(self.label.len() as u8);
+        let length = self.label.len() as u64;
+        header.extend(self.order.bytes(length, widths.label_length));
         header.extend(self.label.as_bytes());
         header.extend(b"</label><timestamp>");
         header.push(self.stamp.len() as u8);
@@ -166,7 +182,7 @@ impl Sketch {
 
     pub fn file(&self) -> Vec<u8> {
         let mut file = self.header();
-        if self.edition != 117 {
+        if !self.widths().tagged {
             for (tag, contents) in self.parts() {
                 file.extend(contents);
                 if tag == "characteristics" {

@@ -1,9 +1,10 @@
 //! Rewriters that are called as the proved one is: a right one, by the independent writer, and wrong ones, which a test has to find.
 
 use crate::dataset::{dataset, outline, Cell, Dataset, Type, Variable};
+use crate::edition::Edition;
 use crate::generate::Order;
 use crate::parts::{parts, Kind, Part};
-use crate::writer::{held, rewritten, write, Target};
+use crate::writer::{held, held_by, rewritten, write, write_by, Target};
 use crate::{check, Layout};
 
 /// File, edition, byte order and output; number and length.
@@ -24,9 +25,35 @@ fn stored(answer: Result<Vec<u8>, u8>, out: &mut [u8]) -> (u64, u64) {
 }
 
 /// Each with what is wrong in it.
-pub fn wrong() -> Vec<(&'static str, Box<Rewrite>)> {
+pub fn wrong() -> Vec<Wrong> {
+    [
+        dead_bytes(),
+        positions_and_order(),
+        what_is_stored(),
+        what_is_stored_too(),
+        the_answer(),
+        which_refusal(),
+        the_target(),
+        what_is_held(),
+        what_is_just_held(),
+        what_is_cut(),
+        widths(),
+        high_bytes(),
+        the_dataset(),
+        numbers(),
+        long_strings(),
+        sort_list_and_texts(),
+    ]
+    .into_iter()
+    .flatten()
+    .collect()
+}
+
+/// What is wrong, and a rewriter that does it.
+pub type Wrong = (&'static str, Box<Rewrite>);
+
+fn dead_bytes() -> Vec<Wrong> {
     vec![
-        // Dead bytes.
         ("dead bytes of a name", copied(Kind::Name)),
         ("dead sort entries", copied(Kind::Sort)),
         ("dead bytes of a format", copied(Kind::Format)),
@@ -45,7 +72,11 @@ pub fn wrong() -> Vec<(&'static str, Box<Rewrite>)> {
         ("unused byte 0", edited(unused_zero)),
         ("expansion blocks kept", edited(blocks_kept)),
         ("characteristics kept", edited(characteristics_kept)),
-        // Positions and byte order.
+    ]
+}
+
+fn positions_and_order() -> Vec<Wrong> {
+    vec![
         (
             "map in the source's order",
             edited(|change| {
@@ -56,7 +87,11 @@ pub fn wrong() -> Vec<(&'static str, Box<Rewrite>)> {
         ("map of the source", edited(map_of_source)),
         ("map of zeros", edited(|change| change.map(|_| vec![0; 8]))),
         ("cells in the source's order", edited(cells_unswapped)),
-        // What is stored.
+    ]
+}
+
+fn what_is_stored() -> Vec<Wrong> {
+    vec![
         (
             "nothing stored",
             Box::new(|file, edition, order, out| {
@@ -82,6 +117,11 @@ pub fn wrong() -> Vec<(&'static str, Box<Rewrite>)> {
                 }
             }),
         ),
+    ]
+}
+
+fn what_is_stored_too() -> Vec<Wrong> {
+    vec![
         (
             "zeros behind the result",
             after(|_, out, answer, _| {
@@ -101,7 +141,11 @@ pub fn wrong() -> Vec<(&'static str, Box<Rewrite>)> {
         ("stored with 14", touched(14..=14)),
         ("stored with 15", touched(15..=15)),
         ("stored with 1 to 13", touched(1..=13)),
-        // The answer.
+    ]
+}
+
+fn the_answer() -> Vec<Wrong> {
+    vec![
         (
             "one more told",
             after(|_, _, answer, _| answer.1 += u64::from(answer.0 == 0)),
@@ -122,6 +166,12 @@ pub fn wrong() -> Vec<(&'static str, Box<Rewrite>)> {
                 }
             }),
         ),
+    ]
+}
+
+/// Of more than one refusal, another.
+fn which_refusal() -> Vec<Wrong> {
+    vec![
         (
             "14 before 15",
             after(|file, out, answer, _| {
@@ -156,6 +206,11 @@ pub fn wrong() -> Vec<(&'static str, Box<Rewrite>)> {
                 answer
             }),
         ),
+    ]
+}
+
+fn the_target() -> Vec<Wrong> {
+    vec![
         (
             "the edition's low byte alone",
             Box::new(|file, edition, order, out| right(file, edition & 0xff, order, out)),
@@ -174,33 +229,177 @@ pub fn wrong() -> Vec<(&'static str, Box<Rewrite>)> {
                 right(file, edition, if order == 1 { 1 } else { 2 }, out)
             }),
         ),
-        (
-            "115 offered",
-            Box::new(|file, edition, order, out| {
-                right(file, if edition == 115 { 114 } else { edition }, order, out)
-            }),
-        ),
-        // What is held.
+        ("116 offered", offered(116, 115)),
+        ("119 offered", offered(119, 118)),
+        ("112 offered", offered(112, 113)),
+        ("115 not offered", offered(115, 0)),
+        ("118 not offered", offered(118, 0)),
+        ("115 written as 114", offered(115, 114)),
+        ("118 written as 117", offered(118, 117)),
+    ]
+}
+
+/// What a target holds is refused.
+fn what_is_held() -> Vec<Wrong> {
+    let variable = |also: fn(&Variable, &Edition) -> bool| {
+        unheld_too(move |dataset, to| dataset.variables.iter().any(|each| also(each, to)))
+    };
+    vec![
         (
             "no text of 244 bytes",
-            unheld_too(|variable, edition| edition != 117 && variable.of == Type::Text(244)),
+            variable(|each, to| !to.tagged && each.of == Type::Text(244)),
         ),
         (
             "no format of 11 bytes",
-            unheld_too(|variable, edition| edition == 113 && variable.format.len() == 11),
+            variable(|each, to| to.number == 113 && each.format.len() == 11),
         ),
         (
-            "no long format in 114",
-            unheld_too(|variable, edition| edition == 114 && variable.format.len() > 11),
+            "no long format in 114 and 115",
+            variable(|each, to| [114, 115].contains(&to.number) && each.format.len() > 11),
+        ),
+        ("no strL at all", variable(|each, _| each.of == Type::Strl)),
+        (
+            "what 117 doesn't hold, in 118",
+            unheld_too(|dataset, to| {
+                to.number == 118 && held_by(dataset, Edition::known(117)).is_err()
+            }),
+        ),
+    ]
+}
+
+/// As `what_is_held`, of texts that fill their field.
+fn what_is_just_held() -> Vec<Wrong> {
+    let variable = |also: fn(&Variable, &Edition) -> bool| {
+        unheld_too(move |dataset, to| dataset.variables.iter().any(|each| also(each, to)))
+    };
+    vec![
+        (
+            "no format that fills the field",
+            variable(|each, to| each.format.len() + 1 == to.format),
         ),
         (
-            "no strL at all",
-            unheld_too(|variable, _| variable.of == Type::Strl),
+            "no name that fills the field",
+            variable(|each, to| each.name.len() + 1 == to.name),
         ),
-        ("formats cut for 113", changed(formats_cut)),
+        (
+            "no label-set name that fills the field",
+            variable(|each, to| each.set.len() + 1 == to.name),
+        ),
+        (
+            "no variable label that fills the field",
+            variable(|each, to| each.label.len() + 1 == to.variable_label),
+        ),
+        (
+            "no dataset label of the greatest length",
+            unheld_too(|dataset, to| dataset.label.len() == to.most_label),
+        ),
+        (
+            "no block name that fills the field",
+            unheld_too(|dataset, to| {
+                let mut blocks = dataset.blocks.iter();
+                blocks.any(|each| each.name.len() + 1 == to.name)
+            }),
+        ),
+    ]
+}
+
+/// What a target can't hold is cut, or written as it is.
+fn what_is_cut() -> Vec<Wrong> {
+    let variables = |cut: fn(&mut Variable, &Edition)| {
+        changed(move |dataset, target| {
+            let to = target.widths();
+            dataset.variables.iter_mut().for_each(|each| cut(each, to));
+        })
+    };
+    vec![
+        (
+            "formats cut",
+            variables(|each, to| each.format.truncate(to.format - 1)),
+        ),
+        (
+            "names cut",
+            variables(|each, to| each.name.truncate(to.name - 1)),
+        ),
+        (
+            "label-set names cut",
+            variables(|each, to| each.set.truncate(to.name - 1)),
+        ),
+        (
+            "variable labels cut",
+            variables(|each, to| each.label.truncate(to.variable_label - 1)),
+        ),
+        (
+            "a dataset label cut",
+            changed(|dataset, target| dataset.label.truncate(target.widths().most_label)),
+        ),
+        ("a dataset label written whole", Box::new(label_whole)),
+        (
+            "block names cut",
+            changed(|dataset, target| {
+                let width = target.widths().name;
+                let blocks = dataset.blocks.iter_mut();
+                blocks.for_each(|each| each.name.truncate(width - 1));
+            }),
+        ),
+    ]
+}
+
+/// An edition written, where it can be, with a width of another.
+fn widths() -> Vec<Wrong> {
+    vec![
+        ("118 with 117's N", other_widths(118, |to| to.n = 4)),
+        (
+            "118 with 117's label length",
+            other_widths(118, |to| to.label_length = 1),
+        ),
+        ("118 with 117's names", other_widths(118, |to| to.name = 33)),
+        (
+            "118 with 117's formats",
+            other_widths(118, |to| to.format = 49),
+        ),
+        (
+            "118 with 117's variable labels",
+            other_widths(118, |to| to.variable_label = 81),
+        ),
+        (
+            "118 with 117's cells",
+            other_widths(118, |to| (to.cell_v, to.cell_o) = (4, 4)),
+        ),
+        (
+            "118 with 117's records",
+            other_widths(118, |to| to.record_o = 4),
+        ),
+        (
+            "118 with 117's digits",
+            other_widths(118, |to| to.number = 117),
+        ),
+    ]
+}
+
+/// Some bytes of a number of 118.
+fn high_bytes() -> Vec<Wrong> {
+    vec![
+        (
+            "o in four of its six bytes",
+            edited(|change| short_o(change, Kind::StrlO)),
+        ),
+        (
+            "o in four of its eight bytes",
+            edited(|change| short_o(change, Kind::RecordO)),
+        ),
+        ("two bytes of o not stored", after(last_of_o)),
+        ("N's high half not stored", after(high_of_n)),
+        (
+            "115 with 113's formats",
+            other_widths(115, |to| to.format = 12),
+        ),
+    ]
+}
+
+fn the_dataset() -> Vec<Wrong> {
+    vec![
         ("wide texts cut", changed(texts_cut)),
         ("strLs emptied", changed(strls_emptied)),
-        // The dataset.
         ("label texts packed", changed(labels_packed)),
         ("label texts cut to the last zero", changed(labels_cut)),
         ("one label block of a name", changed(blocks_of_one_name)),
@@ -208,6 +407,11 @@ pub fn wrong() -> Vec<(&'static str, Box<Rewrite>)> {
             "no label block without entries",
             changed(|dataset, _| dataset.blocks.retain(|block| !block.entries.is_empty())),
         ),
+    ]
+}
+
+fn numbers() -> Vec<Wrong> {
+    vec![
         ("NaN as the usual one", changed(usual_nan)),
         (
             "minus zero as zero",
@@ -231,6 +435,11 @@ pub fn wrong() -> Vec<(&'static str, Box<Rewrite>)> {
                 });
             }),
         ),
+    ]
+}
+
+fn long_strings() -> Vec<Wrong> {
+    vec![
         (
             "long strings cut at a zero",
             changed(|dataset, _| {
@@ -253,6 +462,11 @@ pub fn wrong() -> Vec<(&'static str, Box<Rewrite>)> {
                     .for_each(|record| record.kind = 129);
             }),
         ),
+    ]
+}
+
+fn sort_list_and_texts() -> Vec<Wrong> {
+    vec![
         ("no sort list", changed(|dataset, _| dataset.sorted.clear())),
         ("no stamp", changed(|dataset, _| dataset.stamp.clear())),
         (
@@ -347,17 +561,66 @@ fn changed(change: impl Fn(&mut Dataset, Target) + 'static) -> Box<Rewrite> {
     })
 }
 
-/// 15 also for a dataset with such a variable.
-fn unheld_too(also: impl Fn(&Variable, u64) -> bool + 'static) -> Box<Rewrite> {
+/// 15 also for such a dataset.
+fn unheld_too(also: impl Fn(&Dataset, &Edition) -> bool + 'static) -> Box<Rewrite> {
     Box::new(move |file, edition, order, out| {
-        if let Ok(layout) = check(file) {
-            let variables = outline(file, &layout).variables;
-            if variables.iter().any(|variable| also(variable, edition)) {
+        if let (Ok(layout), Some(to)) = (check(file), Edition::of(edition)) {
+            if also(&outline(file, &layout), to) {
                 return (15, 0);
             }
         }
         right(file, edition, order, out)
     })
+}
+
+/// An edition taken for another.
+fn offered(edition: u64, for_it: u64) -> Box<Rewrite> {
+    Box::new(move |file, given, order, out| {
+        let taken = if given == edition { for_it } else { given };
+        right(file, taken, order, out)
+    })
+}
+
+/// An edition written with other widths, where these hold the dataset; else the right one.
+fn other_widths(edition: u8, change: impl Fn(&mut Edition) + 'static) -> Box<Rewrite> {
+    let mut widths = Edition::known(edition).clone();
+    change(&mut widths);
+    Box::new(move |file, given, order, out| {
+        let target = Target::offered(given, order).filter(|target| target.edition == edition);
+        let (Ok(layout), Some(target)) = (check(file), target) else {
+            return right(file, given, order, out);
+        };
+        let dataset = dataset(file, &layout);
+        let fits = dataset.label.len() < 256 || widths.label_length > 1;
+        match held_by(&dataset, &widths) {
+            Ok(length) if fits && length <= out.len() as u64 => {
+                stored(Ok(write_by(&dataset, &widths, target.order)), out)
+            }
+            _ => right(file, given, order, out),
+        }
+    })
+}
+
+/// A dataset label too long for the target, with the low byte of its length before it.
+fn label_whole(file: &[u8], edition: u64, order: u64, out: &mut [u8]) -> (u64, u64) {
+    let (Ok(layout), Some(target)) = (check(file), Target::offered(edition, order)) else {
+        return right(file, edition, order, out);
+    };
+    let (mut dataset, to) = (dataset(file, &layout), target.widths());
+    let label = dataset.label.clone();
+    dataset.label.truncate(to.most_label);
+    if !to.tagged || label.len() <= to.most_label || held(&dataset, target).is_err() {
+        return right(file, edition, order, out);
+    }
+    let mut result = write(&dataset, target);
+    let text = result.windows(8).position(|bytes| bytes == b"</label>");
+    let start = text.expect("the label's end") - to.most_label;
+    result[start - 1] = label.len() as u8;
+    result.splice(start..start + to.most_label, label);
+    match result.len() <= out.len() {
+        true => stored(Ok(result), out),
+        false => (14, 0),
+    }
 }
 
 // Changes of a result.
@@ -368,7 +631,11 @@ impl Change<'_> {
     }
 
     fn tagged(&self) -> bool {
-        self.to.edition == 117
+        Edition::known(self.to.edition).tagged
+    }
+
+    fn source_tagged(&self) -> bool {
+        Edition::known(self.from.edition).tagged
     }
 
     /// Parts of these kinds, in the file and in the result.
@@ -410,7 +677,7 @@ impl Change<'_> {
 /// What stands in the parts of that kind is copied as it is, with its dead bytes.
 fn copied(kind: Kind) -> Box<Rewrite> {
     edited(move |change| match kind {
-        Kind::Label | Kind::Stamp if change.from.edition == 117 || change.tagged() => {}
+        Kind::Label | Kind::Stamp if change.source_tagged() || change.tagged() => {}
         Kind::Sort => {
             let order = Order::from_code(change.to.byte_order);
             for (from, to) in change.pairs(&[Kind::Sort]) {
@@ -451,8 +718,39 @@ fn cells_unswapped(change: &mut Change) {
     }
 }
 
+/// The low half of an o that has more than four bytes, at the start of its field.
+fn short_o(change: &mut Change, kind: Kind) {
+    let order = Order::from_code(change.to.byte_order);
+    for (_, to) in change.pairs(&[kind]) {
+        let field = &mut change.result[to.start..to.end];
+        let o = order.number(field);
+        field[4..].fill(0);
+        field[..4].copy_from_slice(&order.bytes(o, 4));
+    }
+}
+
+/// The parts of a kind in a result are left as they were from the fourth byte on.
+fn left_as_it_was(kind: Kind, out: &mut [u8], answer: &(u64, u64), before: &[u8]) {
+    let result = &out[..answer.1 as usize];
+    if let (0, Ok(layout)) = (answer.0, check(result)) {
+        let mut found = parts(result, &layout).parts;
+        found.retain(|part| part.kind == kind && part.end - part.start > 4);
+        for part in found {
+            out[part.start + 4..part.end].copy_from_slice(&before[part.start + 4..part.end]);
+        }
+    }
+}
+
+fn last_of_o(_: &[u8], out: &mut [u8], answer: &mut (u64, u64), before: &[u8]) {
+    left_as_it_was(Kind::StrlO, out, answer, before);
+}
+
+fn high_of_n(_: &[u8], out: &mut [u8], answer: &mut (u64, u64), before: &[u8]) {
+    left_as_it_was(Kind::N, out, answer, before);
+}
+
 fn map_of_source(change: &mut Change) {
-    if change.from.edition == 117 {
+    if change.source_tagged() {
         let order = Order::from_code(change.to.byte_order);
         let (from, to) = (change.from.positions, change.to.positions);
         change.map(|position| {
@@ -464,7 +762,7 @@ fn map_of_source(change: &mut Change) {
 
 fn blocks_kept(change: &mut Change) {
     let same_order = change.from.byte_order == change.to.byte_order;
-    if change.from.edition != 117 && !change.tagged() && same_order {
+    if !change.source_tagged() && !change.tagged() && same_order {
         let [from, to] = [&change.from, &change.to].map(|layout| {
             let positions = layout.positions;
             positions[8] as usize..positions[9] as usize
@@ -476,7 +774,7 @@ fn blocks_kept(change: &mut Change) {
 
 fn characteristics_kept(change: &mut Change) {
     let same_order = change.from.byte_order == change.to.byte_order;
-    if change.from.edition == 117 && change.tagged() && same_order {
+    if change.source_tagged() && change.tagged() && same_order {
         let start = change.from.positions[8] as usize + "<characteristics>".len();
         let end = change.from.positions[9] as usize - "</characteristics>".len();
         let contents = change.file[start..end].to_vec();
@@ -494,16 +792,8 @@ fn characteristics_kept(change: &mut Change) {
 
 // Changes of a dataset.
 
-fn formats_cut(dataset: &mut Dataset, target: Target) {
-    if target.edition == 113 {
-        for variable in &mut dataset.variables {
-            variable.format.truncate(11);
-        }
-    }
-}
-
 fn texts_cut(dataset: &mut Dataset, target: Target) {
-    if target.edition != 117 {
+    if !target.widths().tagged {
         for variable in &mut dataset.variables {
             if let Type::Text(width) = &mut variable.of {
                 *width = 244.min(*width);
@@ -518,7 +808,7 @@ fn texts_cut(dataset: &mut Dataset, target: Target) {
 }
 
 fn strls_emptied(dataset: &mut Dataset, target: Target) {
-    if target.edition != 117 {
+    if !target.widths().tagged {
         for variable in &mut dataset.variables {
             if variable.of == Type::Strl {
                 variable.of = Type::Text(1);

@@ -1,5 +1,6 @@
 //! Layouts that are wrong for a file.
 
+use crate::edition::NUMBERS;
 use crate::questions::Numbers;
 use crate::random::Random;
 
@@ -49,7 +50,7 @@ pub fn other_ends(random: &mut Random, layout: &mut Numbers, length: usize) {
 
 fn any(random: &mut Random, length: usize) -> Numbers {
     let mut layout = [0; 18];
-    layout[0] = random.pick(&[113, 114, 117, 117]);
+    layout[0] = random.pick(&[113, 114, 115, 117, 117, 118, 118]);
     layout[1] = random.pick(&[1, 2]);
     layout[2] = random.pick(&[1, 2, 3, 5, 9, 300]);
     layout[3] = random.pick(&[1, 2, 3, 5, 9, 70_000]);
@@ -71,7 +72,7 @@ fn spoil(random: &mut Random, layout: &mut Numbers, own: &Numbers, other: &Numbe
         2 => layout.swap(position, random.between(POSITIONS, own.len() - 1)),
         3 => layout[position] = high(random),
         4 => layout[random.between(2, 3)] = large(random),
-        5 => layout[0] = random.pick(&[113, 113, 114, 114, 117, 117, 0, 112, 115, 118, 369]),
+        5 => layout[0] = edition(random),
         6 => layout[1] = random.pick(&[1, 1, 2, 2, 0, 3, 256, 257, u64::MAX]),
         7 => layout[item] = other[item],
         8 => layout[position] = random.below(length + 2) as u64,
@@ -97,6 +98,15 @@ fn spoil(random: &mut Random, layout: &mut Numbers, own: &Numbers, other: &Numbe
                 false => layout[position].saturating_add(by),
             };
         }
+    }
+}
+
+/// One that is read, or one that isn't.
+fn edition(random: &mut Random) -> u64 {
+    let known = NUMBERS.map(u64::from);
+    match random.once_in(3) {
+        true => random.pick(&[0, 112, 116, 119, 256 + 113, 256 + 118, (1 << 32) + 118]),
+        false => random.pick(&known),
     }
 }
 

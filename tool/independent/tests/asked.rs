@@ -6,7 +6,7 @@ use independent::{check, stated};
 use std::path::Path;
 
 /// More observations than a stated file has.
-const MOST: u64 = 100;
+const MOST: u64 = 400;
 
 #[test]
 fn every_stated_file_answers_alike() {

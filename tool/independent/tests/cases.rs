@@ -32,7 +32,7 @@ fn field(text: &str, width: usize) -> Vec<u8> {
     field
 }
 
-/// 113 or 114 with one byte variable and one observation, up to the expansion blocks.
+/// An old edition with one byte variable and one observation, up to the expansion blocks.
 fn old_beginning(edition: u8, order: Order) -> Vec<u8> {
     let code = match order {
         Order::Msf => 1,
@@ -161,12 +161,20 @@ fn smallest_inputs() {
     assert_eq!(line(&[]), "refused 2");
     assert_eq!(line(&[114]), "refused 3");
     assert_eq!(line(&[113]), "refused 3");
-    assert_eq!(line(&[115]), "refused 2");
+    assert_eq!(line(&[115]), "refused 3");
+    for byte in [0, 112, 116, 117, 118, 119, b'<', 255] {
+        assert_eq!(line(&[byte]), "refused 2");
+    }
+    for (release, due) in [(116, 2), (117, 3), (118, 3), (119, 2)] {
+        let opening = format!("<stata_dta><header><release>{release}</release>");
+        assert_eq!(line(opening.as_bytes()), format!("refused {due}"));
+        assert_eq!(line(&opening.as_bytes()[..40]), "refused 2");
+    }
 }
 
 #[test]
 fn label_values_ascend_as_signed() {
-    for edition in [113, 114] {
+    for edition in [113, 114, 115] {
         for order in [Order::Msf, Order::Lsf] {
             let refusal =
                 |values| check(&old_with_table(edition, order, &yes_no(order, values))).err();
@@ -300,7 +308,7 @@ fn bytes_after_the_end_are_refused_though_the_map_counts_them() {
 
 #[test]
 fn no_observations_without_variables() {
-    for edition in [113, 114] {
+    for edition in [113, 114, 115] {
         let mut file = vec![edition, 1, 1, 1, 0, 0, 0, 0, 0, 1];
         file.resize(109 + 2 + 5, 0);
         assert_eq!(check(&file), Err(5));
@@ -412,7 +420,7 @@ fn strls_are_judged_after_all_records_and_before_the_closing_tag() {
 }
 
 #[test]
-fn label_block_of_117_is_judged_in_order() {
+fn label_block_of_a_tagged_edition_is_judged_in_order() {
     let order = Order::Msf;
     let start = 915 + 14;
     let mut file = p14()[..start].to_vec();
@@ -441,8 +449,14 @@ fn label_block_of_117_is_judged_in_order() {
 // Cut files.
 
 #[test]
-fn no_beginning_of_a_117_file_is_accepted() {
-    for file in [p14(), case("117-lsf-small"), case("117-msf-typical")] {
+fn no_beginning_of_a_tagged_file_is_accepted() {
+    let cases = [
+        "117-lsf-small",
+        "117-msf-typical",
+        "118-lsf-small",
+        "118-msf-typical",
+    ];
+    for file in cases.map(case).into_iter().chain([p14()]) {
         let layout = accepted(&file);
         let records = layout.positions[10] + 7..layout.positions[11];
         for length in 0..file.len() {
@@ -462,6 +476,8 @@ fn accepted_beginnings_of_old_files_end_at_the_data_or_a_label_block() {
         ("113-lsf-typical", Order::Lsf),
         ("114-lsf-typical", Order::Lsf),
         ("113-msf-small", Order::Msf),
+        ("115-lsf-sort-all", Order::Lsf),
+        ("115-msf-fmt-max", Order::Msf),
     ] {
         let file = case(name);
         let layout = accepted(&file);
@@ -507,7 +523,12 @@ fn assert_dead(file: &mut [u8], place: usize) {
 
 #[test]
 fn unused_header_byte_is_dead() {
-    for name in ["113-lsf-typical", "113-msf-small", "114-lsf-typical"] {
+    for name in [
+        "113-lsf-typical",
+        "113-msf-small",
+        "114-lsf-typical",
+        "115-lsf-sort-all",
+    ] {
         assert_dead(&mut case(name), 3);
     }
 }
@@ -517,21 +538,23 @@ fn padding_of_a_label_block_is_dead() {
     for (name, order, tags) in [
         ("113-lsf-typical", Order::Lsf, 0),
         ("114-lsf-typical", Order::Lsf, 0),
+        ("115-msf-fmt-max", Order::Msf, 0),
         ("117-msf-typical", Order::Msf, 5),
+        ("118-lsf-small", Order::Lsf, 5),
     ] {
         let mut file = case(name);
         let layout = accepted(&file);
-        let opening = if layout.edition == 117 { 14 } else { 0 };
-        let closing = if layout.edition == 117 { 15 } else { 0 };
+        let head = if layout.edition == 118 { 136 } else { 40 };
+        let (opening, closing) = if tags > 0 { (14, 15) } else { (0, 0) };
         let end = layout.positions[12] as usize - closing;
         let mut at = layout.positions[11] as usize + opening;
         assert!(at < end, "{name}: no label block");
         while at < end {
             at += tags;
-            for place in at + 37..at + 40 {
+            for place in at + head - 3..at + head {
                 assert_dead(&mut file, place);
             }
-            at += 40 + label_table_length(&file[at..], order);
+            at += head + label_table_length(&file[at..], order);
             at += if tags > 0 { tags + 1 } else { 0 };
         }
         assert_eq!(at, end, "{name}");
@@ -567,8 +590,11 @@ fn damaged_files_are_answered() {
     for name in [
         "113-msf-small",
         "114-lsf-typical",
+        "115-lsf-sort-all",
         "117-lsf-small",
         "117-msf-typical",
+        "118-lsf-small",
+        "118-msf-typical",
     ] {
         let file = case(name);
         for _ in 0..2000 {

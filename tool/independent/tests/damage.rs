@@ -3,8 +3,10 @@
 //! DTA_DAMAGED is how many files are damaged, DTA_SEED where the seeds start.
 
 use independent::damage::Source;
+use independent::generate::Order;
+use independent::parts::{parts, Kind};
 use independent::random::Random;
-use independent::{check, generate, proved, stated};
+use independent::{check, generate, proved, stated, Layout};
 use std::io::Write;
 
 const DAMAGED: u64 = 400_000;
@@ -109,4 +111,38 @@ fn damaged_files_get_the_same_answer() {
             "number {number} occurred {count} times only"
         );
     }
+}
+
+/// A file of 118 with the higher bytes of some numbers set to zero: what a reader sees that reads four bytes of them.
+fn low_bytes(file: &[u8], kind: Kind, whole: &[u8], layout: &Layout) -> Vec<u8> {
+    let order = Order::from_code(layout.byte_order);
+    let mut low = file.to_vec();
+    for part in parts(whole, layout).parts {
+        if part.kind == kind {
+            let field = &mut low[part.start..part.end];
+            let number = order.number(field) & 0xffff_ffff;
+            field.copy_from_slice(&order.bytes(number, part.end - part.start));
+        }
+    }
+    low
+}
+
+/// Readers that drop the higher bytes of N, or of an o in a cell or a record, are found by damaged files.
+#[test]
+fn readers_that_drop_higher_bytes_are_found() {
+    let kinds = [Kind::N, Kind::StrlO, Kind::RecordO];
+    let mut found = [0; 3];
+    for seed in 0..3_000 {
+        let random = &mut Random::new(seed);
+        let order = random.pick(&[Order::Msf, Order::Lsf]);
+        let file = generate::file_of(random, 118, order);
+        let layout = check(&file).expect("a generated file is accepted");
+        let source = Source::new(file.clone(), &layout);
+        for (kind, found) in kinds.into_iter().zip(&mut found) {
+            let damaged = source.damaged_as(kind, random);
+            let low = low_bytes(&damaged, kind, &file, &layout);
+            *found += u64::from(check(&damaged) != check(&low));
+        }
+    }
+    assert!(found.iter().all(|count| *count >= 50), "{found:?}");
 }

@@ -50,17 +50,23 @@ fn a_file_over_the_bound() {
 
 #[test]
 fn another_beginning() {
-    let what = "the file starts with none of byte 113, byte 114, and the 41 bytes \
-                <stata_dta><header><release>117</release>";
+    let what = "the file starts with none of bytes 113, 114, 115 and the 41 bytes \
+                <stata_dta><header><release>117</release>, or the same with 118";
     assert_cases(
         2,
         &[
             ("empty", 0, what),
-            ("one-byte-115", 0, what),
+            ("one-byte-116", 0, what),
             ("release-cut", 0, what),
-            ("edition-118", 0, what),
         ],
     );
+    for release in ["116", "119"] {
+        let file = edited("118-lsf-small", &[(28, release.as_bytes())]);
+        let what = format!("{what}; its release is {release}, which isn't read");
+        assert_refused(&file, 2, 0, &what);
+    }
+    let file = edited("118-lsf-small", &[(28, b"11x")]);
+    assert_refused(&file, 2, 0, what);
 }
 
 #[test]
@@ -204,6 +210,39 @@ fn a_cut_117_file() {
                 "the table of label block 1 needs 4000000000 bytes, 64 remain",
             ),
         ],
+    );
+}
+
+#[test]
+fn a_cut_118_file() {
+    let file = case("118-lsf-small");
+    assert_eq!(check(&file).err(), None);
+    for (length, place, what) in [
+        (86, 79, "N needs 8 bytes, 7 remain"),
+        (
+            99,
+            98,
+            "the length of the dataset label needs 2 bytes, 1 remains",
+        ),
+        (340, 328, "the names need 258 bytes, 12 remain"),
+        (700, 633, "the display formats need 114 bytes, 67 remain"),
+        (780, 776, "the label-set names need 258 bytes, 4 remain"),
+        (1100, 1071, "the variable labels need 642 bytes, 29 remain"),
+        (
+            2231,
+            2096,
+            "the length, name and padding of label block 1 need 136 bytes, 135 remain",
+        ),
+    ] {
+        assert_refused(&file[..length], 3, place, what);
+    }
+    let file = case("118-msf-typical");
+    let records = check(&file).unwrap().positions[10] + 7;
+    assert_refused(
+        &file[..records as usize + 19],
+        3,
+        records + 3,
+        "the reference, kind and length of record 1 need 17 bytes, 16 remain",
     );
 }
 
@@ -389,6 +428,86 @@ fn a_wrong_117_header() {
         5,
         52,
         r#"the byte order is "\x00\"\xff", and must be MSF or LSF"#,
+    );
+}
+
+#[test]
+fn a_wrong_118_header() {
+    assert_cases(
+        5,
+        &[
+            (
+                "118-lsf-n-bit-40",
+                79,
+                "N is 1099511627779, and may be at most 2,147,483,647",
+            ),
+            (
+                "118-msf-n-bit-63",
+                79,
+                "N is 9223372036854775811, and may be at most 2,147,483,647",
+            ),
+            (
+                "118-msf-k0-n-high",
+                79,
+                "N is 4294967296, and may be at most 2,147,483,647",
+            ),
+            (
+                "118-msf-label-over",
+                98,
+                "the length of the dataset label is 321, and must be at most 320",
+            ),
+            (
+                "118-msf-label-zero",
+                98,
+                "byte 2 of the dataset label is zero, and none may be",
+            ),
+        ],
+    );
+}
+
+/// A text of 118 that fills its field.
+#[test]
+fn a_wrong_text_field_of_118() {
+    let x = [b'x'; 321];
+    for (place, width, what) in [
+        (328, 129, "the name of variable 1"),
+        (633 + 57, 57, "the display format of variable 2"),
+        (776 + 129, 129, "the label-set name of variable 2"),
+        (1071 + 321, 321, "the variable label of variable 2"),
+        (2100, 129, "the name of label block 1"),
+    ] {
+        let file = edited("118-lsf-small", &[(place, &x[..width])]);
+        let what = format!("{what} has no zero byte in its {width} bytes");
+        assert_refused(&file, 7, place as u64, &what);
+        let ended = [&x[..width - 1], &[0]].concat();
+        let file = edited("118-lsf-small", &[(place, &ended)]);
+        assert_eq!(check(&file).err(), None, "{place}");
+    }
+}
+
+/// Each number of a reference is read whole.
+#[test]
+fn a_wrong_reference_of_118() {
+    assert_cases(
+        11,
+        &[
+            (
+                "118-lsf-strl-cell-o-bit-47",
+                10080,
+                "cell (variable 9, observation 1) refers to (9,140737488355329), \
+                 which comes after it",
+            ),
+            (
+                "118-msf-strl-rec-o-bit-63",
+                14772,
+                "a record of (9,9223372036854775809), which no cell asks for",
+            ),
+            (
+                "118-lsf-strl-rec-v-bit-31",
+                14772,
+                "a record of (2147483657,1), which no cell asks for",
+            ),
+        ],
     );
 }
 
@@ -897,6 +1016,7 @@ fn says_what_stands_there(file: &[u8], refusal: &Refusal) -> bool {
         _ => file.get(1) == Some(&1),
     };
     let order = if msf { Order::Msf } else { Order::Lsf };
+    let is_118 = file.get(28..31) == Some(b"118");
     let number = |place: usize, width: usize| order.number(&here[place..place + width]) as i64;
     let signed = |place: usize| number(place, 4) as u32 as i32 as i64;
     match refusal.number {
@@ -917,7 +1037,7 @@ fn says_what_stands_there(file: &[u8], refusal: &Refusal) -> bool {
         }
         5 => match what.split(' ').next() {
             Some("K") => number(0, 2) == said[0],
-            Some("N") => number(0, 4) == said[0],
+            Some("N") => number(0, if is_118 { 8 } else { 4 }) == said[0],
             _ => true,
         },
         6 => {
@@ -930,7 +1050,10 @@ fn says_what_stands_there(file: &[u8], refusal: &Refusal) -> bool {
         8 => number(0, 2) == said[0],
         9 => here[0] == 0 && number(1, 4) == said[2] && said[2] != 0,
         10 => number(0, 8) == said[1] && said[1] != said[2],
-        11 if what.starts_with("cell") => (number(0, 4), number(4, 4)) == (said[2], said[3]),
+        11 if what.starts_with("cell") => {
+            let v = if is_118 { 2 } else { 4 };
+            (number(0, v), number(v, 8 - v)) == (said[2], said[3])
+        }
         11 if what.ends_with("is missing") => !here.starts_with(b"GSO"),
         11 => {
             let name = match what.contains("is due here") {
@@ -938,9 +1061,10 @@ fn says_what_stands_there(file: &[u8], refusal: &Refusal) -> bool {
                 false => &said[..2],
             };
             let kind = what.contains("has kind");
+            let o = if is_118 { 8 } else { 4 };
             here.starts_with(b"GSO")
-                && [number(3, 4), number(7, 4)] == name[..]
-                && (!kind || i64::from(here[11]) == said[2])
+                && [number(3, 4), number(7, o)] == name[..]
+                && (!kind || i64::from(here[7 + o]) == said[2])
         }
         12 if what.contains(": the offset") => number(0, 4) == said[2],
         12 if what.contains(": the value") => signed(0) == said[2] && signed(0) <= said[3],
@@ -998,7 +1122,13 @@ fn every_stated_file_is_explained() {
 #[test]
 fn every_beginning_is_explained() {
     let mut counts = Counts([0; 14]);
-    for name in ["113-msf-small", "114-lsf-typical", "117-msf-typical"] {
+    for name in [
+        "113-msf-small",
+        "114-lsf-typical",
+        "115-lsf-sort-all",
+        "117-msf-typical",
+        "118-lsf-small",
+    ] {
         let file = case(name);
         for length in 0..file.len() {
             counts.explain(&file[..length], &format!("{name}, {length} bytes"));

@@ -1,5 +1,6 @@
 //! Files made at random, by the paper.
 
+use independent::edition::NUMBERS;
 use independent::generate::{file, file_of, Order};
 use independent::random::Random;
 use independent::{check, Layout};
@@ -14,7 +15,7 @@ fn every_generated_file_is_accepted() {
 
 #[test]
 fn a_generated_file_has_the_edition_and_order_asked_for() {
-    for edition in [113, 114, 117] {
+    for edition in NUMBERS {
         for (order, code) in [(Order::Msf, 1), (Order::Lsf, 2)] {
             for seed in 0..100 {
                 let file = file_of(&mut Random::new(seed), edition, order);

@@ -9,11 +9,12 @@ mod across;
 use dta::raw;
 use independent::damage::Source;
 use independent::dataset::{dataset, Cell as Stored, Dataset};
+use independent::edition::{Edition, NUMBERS};
 use independent::generate::Order;
 use independent::questions::{ask, numbers, Answer, Cell, Kind, Numbers, Question, Span};
 use independent::random::Random;
 use independent::sketch::{Sketch, Variable, X};
-use independent::{check, generate, stated, wrong};
+use independent::{check, generate, stated, wrong, Layout};
 
 const GENERATED: u64 = 600;
 /// Cells that are asked with one layout.
@@ -78,7 +79,7 @@ fn coded(answer: Answer) -> [u64; 4] {
             Cell::Between => [10, 0, 0, 0],
             Cell::Outside => [11, 0, 0, 0],
             Cell::Text(span) => part(12, span),
-            Cell::Reference { v, o } => [13, u64::from(v), u64::from(o), 0],
+            Cell::Reference { v, o } => [13, v, o, 0],
         },
         Answer::Long { kind, contents } => [14, u64::from(kind), contents.place, contents.length],
         Answer::Column { .. } => unreachable!("it is not asked"),
@@ -389,6 +390,22 @@ fn wrong_functions_are_found() {
             code => code,
         }
     }
+    /// The low half of o.
+    fn short_o(file: &[u8], layout: &[u64], number: u64, i: u64, j: u64, lent: &mut [u64]) -> u8 {
+        let code = raw::ask(file, layout, number, i, j, lent);
+        if let [13, _, o, ..] = lent {
+            *o &= 0xffff_ffff;
+        }
+        code
+    }
+    /// The low half of N.
+    fn short_n(file: &[u8], layout: &[u64], number: u64, i: u64, j: u64, lent: &mut [u64]) -> u8 {
+        let code = raw::ask(file, layout, number, i, j, lent);
+        if let (3, [1, n, ..]) = (number, lent) {
+            *n &= 0xffff_ffff;
+        }
+        code
+    }
     fn stray(file: &[u8], layout: &[u64], number: u64, i: u64, j: u64, lent: &mut [u64]) -> u8 {
         let code = raw::ask(file, layout, number, i, j, lent);
         if let Some(past) = lent.get_mut(4) {
@@ -458,6 +475,20 @@ fn wrong_functions_are_found() {
             "seventeen",
             Functions {
                 ask: seventeen,
+                ..PROVED
+            },
+        ),
+        (
+            "short_o",
+            Functions {
+                ask: short_o,
+                ..PROVED
+            },
+        ),
+        (
+            "short_n",
+            Functions {
+                ask: short_n,
                 ..PROVED
             },
         ),
@@ -730,14 +761,18 @@ type List = fn(&[u8], &mut [u64], &mut [u64]) -> u8;
 const LISTS: [List; 3] = [raw::long_list, raw::set_list, raw::sort_order];
 
 /// The numbers of a file's long strings, of its label sets, and of its sort order.
-fn lists(file: &[u8], dataset: &Dataset, positions: &[u64], tagged: bool) -> [Vec<u64>; 3] {
-    let tag = |size: u64| if tagged { size } else { 0 };
+fn lists(file: &[u8], dataset: &Dataset, layout: &Layout) -> [Vec<u64>; 3] {
+    let (edition, positions) = (Edition::known(layout.edition), &layout.positions);
+    let tag = |size: u64| if edition.tagged { size } else { 0 };
+    let record_head = 3 + edition.record_head() as u64;
+    let block_head = edition.block_head() as u64;
     let mut longs = Vec::new();
     let mut at = positions[10] + tag(7);
     for record in &dataset.records {
         let length = record.contents.len() as u64;
-        longs.extend([record.v, record.o, u64::from(record.kind), at + 16, length]);
-        at += 16 + length;
+        let contents = at + record_head;
+        longs.extend([record.v, record.o, u64::from(record.kind), contents, length]);
+        at = contents + length;
     }
     let mut sets = Vec::new();
     let mut at = positions[11] + tag(14);
@@ -745,7 +780,7 @@ fn lists(file: &[u8], dataset: &Dataset, positions: &[u64], tagged: bool) -> [Ve
         at += tag(5);
         let n = block.entries.len() as u64;
         sets.extend([at + 4, block.name.len() as u64, n]);
-        let text = at + 48 + 8 * n;
+        let text = at + block_head + 8 + 8 * n;
         for entry in &block.entries {
             sets.extend([entry.value, text + entry.offset, entry.text.len() as u64]);
             assert_eq!(
@@ -764,12 +799,7 @@ fn list_difference(of: [List; 3], files: &[Vec<u8>]) -> Result<[usize; 3], Strin
     for file in files {
         let verdict = check(file);
         let due = match &verdict {
-            Ok(layout) => lists(
-                file,
-                &dataset(file, layout),
-                &layout.positions,
-                layout.edition == 117,
-            ),
+            Ok(layout) => lists(file, &dataset(file, layout), layout),
             Err(_) => Default::default(),
         };
         for (at, (list, due)) in of.into_iter().zip(due).enumerate() {
@@ -823,11 +853,11 @@ fn a_file_sorted_by_all_its_variables() {
         sketch.sorted = (1..=32_767).rev().collect();
         sketch.file()
     };
-    let editions = [113, 114, 117].into_iter();
+    let editions = NUMBERS.into_iter();
     let files: Vec<Vec<u8>> = editions
         .flat_map(|edition| [Order::Msf, Order::Lsf].map(|order| file(edition, order)))
         .collect();
-    assert_eq!(list_difference(LISTS, &files), Ok([0, 0, 6 * 32_767]));
+    assert_eq!(list_difference(LISTS, &files), Ok([0, 0, 10 * 32_767]));
 }
 
 #[test]
@@ -931,10 +961,7 @@ fn said(cell: dta::Cell, file: &[u8]) -> Cell {
             place: text.as_ptr() as u64 - file.as_ptr() as u64,
             length: text.len() as u64,
         }),
-        dta::Cell::Reference { v, o } => Cell::Reference {
-            v: v as u32,
-            o: o as u32,
-        },
+        dta::Cell::Reference { v, o } => Cell::Reference { v, o },
     }
 }
 
@@ -1085,7 +1112,7 @@ fn the_safe_crate_rewrites() {
         }
         assert_eq!(
             opened
-                .rewritten(118, dta::ByteOrder::Msf)
+                .rewritten(119, dta::ByteOrder::Msf)
                 .unwrap_err()
                 .number(),
             15

@@ -1,9 +1,12 @@
 //! The proved library, as compiled: the stated lines, the contract's edges, and the bounds of the format.
 
+use independent::edition::{Edition, NUMBERS};
 use independent::generate::{file, file_of, Order};
-use independent::parts::parts;
+use independent::parts::{parts, Kind as PartKind};
 use independent::proved::{self, answer, call, due, STORED};
+use independent::questions::Kind;
 use independent::random::Random;
+use independent::sketch::{Sketch, Variable, X};
 use independent::{check, stated, Layout};
 
 const ORDERS: [Order; 2] = [Order::Msf, Order::Lsf];
@@ -31,7 +34,14 @@ fn every_case_gets_its_layout() {
 
 #[test]
 fn every_beginning_of_a_file_gets_the_same_answer() {
-    let cases = ["113-msf-small", "114-lsf-typical", "117-lsf-small"].map(stated::case);
+    let cases = [
+        "113-msf-small",
+        "114-lsf-typical",
+        "115-lsf-ch-none",
+        "117-lsf-small",
+        "118-lsf-small",
+    ];
+    let cases = cases.map(stated::case);
     let made = (0..60).map(|seed| file(&mut Random::new(seed)));
     for file in cases.into_iter().chain(made) {
         if file.len() < 20_000 {
@@ -52,7 +62,7 @@ fn small(edition: u8, order: Order) -> Vec<u8> {
 
 #[test]
 fn every_byte_of_a_file_can_be_another() {
-    for edition in [113, 114, 117] {
+    for edition in NUMBERS {
         for order in ORDERS {
             let mut file = small(edition, order);
             for place in 0..file.len() {
@@ -218,77 +228,71 @@ fn label_text_bound() {
     }
 }
 
-/// N above 65,535, so that all bytes of a count and of a reference matter.
+/// A byte and a strL with that many observations, each third of which names itself, the others the one before it.
+fn with_references(edition: u8, order: Order, n: u64) -> Vec<u8> {
+    let mut sketch = Sketch::new(edition, order);
+    sketch.n = n;
+    let kind = Kind::Strl;
+    sketch.variables = vec![X, Variable { kind, ..X }];
+    for o in 1..=n {
+        let named = (o - 1) / 3 * 3 + 1;
+        sketch.data.push(o as u8);
+        sketch.reference(2, named);
+        if named == o {
+            sketch.record(2, o, 130, b"a\0");
+        }
+    }
+    sketch.file()
+}
+
+/// N above 65,535, so that more bytes of a count and of a reference matter.
 #[test]
 fn many_observations() {
-    for order in ORDERS {
-        let n: u64 = 70_000;
-        let mut file = b"<stata_dta><header><release>117</release><byteorder>".to_vec();
-        file.extend(match order {
-            Order::Msf => b"MSF",
-            Order::Lsf => b"LSF",
-        });
-        file.extend(b"</byteorder><K>");
-        file.extend(order.bytes(2, 2));
-        file.extend(b"</K><N>");
-        file.extend(order.bytes(n, 4));
-        file.extend(b"</N><label>\0</label><timestamp>\0</timestamp></header>");
-        let mut positions = vec![0, file.len()];
-        file.extend(b"<map>");
-        let map = file.len();
-        file.extend([0; 112]);
-        file.extend(b"</map>");
-        let mut section = |tag: &str, contents: &[u8]| {
-            positions.push(file.len());
-            file.extend(format!("<{tag}>").as_bytes());
-            file.extend(contents);
-            file.extend(format!("</{tag}>").as_bytes());
-        };
-        let types = [order.bytes(65_530, 2), order.bytes(32_768, 2)].concat();
-        section("variable_types", &types);
-        section("varnames", &field("x", 33).repeat(2));
-        section("sortlist", &[0; 6]);
-        section("formats", &[0; 98]);
-        section("value_label_names", &[0; 66]);
-        section("variable_labels", &[0; 162]);
-        section("characteristics", &[]);
-        // Each third cell names itself, the others the one before it.
-        let (mut data, mut records) = (Vec::new(), Vec::new());
-        for o in 1..=n {
-            let named = (o - 1) / 3 * 3 + 1;
-            data.push(o as u8);
-            data.extend(order.bytes(2, 4));
-            data.extend(order.bytes(named, 4));
-            if named == o {
-                records.extend(b"GSO");
-                records.extend(order.bytes(2, 4));
-                records.extend(order.bytes(o, 4));
-                records.push(130);
-                records.extend(order.bytes(2, 4));
-                records.extend(b"a\0");
+    for edition in [117, 118] {
+        for order in ORDERS {
+            let n: u64 = 70_000;
+            let mut file = with_references(edition, order, n);
+            let layout = verdict(&file).expect("accepted");
+            assert_eq!(u64::from(layout.n), n);
+            assert_eq!(parts(&file, &layout).parts.len() as u64 / n, 5);
+            // A reference to a cell that names another, 65,536 above or below.
+            let data = layout.positions[9] as usize + "<data>".len();
+            let widths = Edition::known(edition);
+            for (o, named) in [(69_999, 69_997 - 65_536), (3, 1 + 65_536)] {
+                let start = data + 9 * (o - 1) + 1 + widths.cell_v;
+                let place = start..start + widths.cell_o;
+                let before = file[place.clone()].to_vec();
+                file[place.clone()].copy_from_slice(&order.bytes(named, widths.cell_o));
+                assert_eq!(verdict(&file), Err(11));
+                file[place].copy_from_slice(&before);
             }
         }
-        section("data", &data);
-        section("strls", &records);
-        section("value_labels", &[]);
-        positions.push(file.len());
-        file.extend(b"</stata_dta>");
-        positions.push(file.len());
-        for (item, position) in positions.iter().enumerate() {
-            let place = map + 8 * item;
-            file[place..place + 8].copy_from_slice(&order.bytes(*position as u64, 8));
-        }
-        let layout = verdict(&file).expect("accepted");
-        assert_eq!(u64::from(layout.n), n);
-        assert_eq!(parts(&file, &layout).parts.len() as u64 / n, 5);
-        // A reference to a cell that names another, 65,536 above or below.
-        let data = layout.positions[9] as usize + 6;
-        for (o, named) in [(69_999, 69_997 - 65_536), (3, 1 + 65_536)] {
-            let place = data + 9 * (o - 1) + 5;
-            let before = file[place..place + 4].to_vec();
-            file[place..place + 4].copy_from_slice(&order.bytes(named, 4));
-            assert_eq!(verdict(&file), Err(11));
-            file[place..place + 4].copy_from_slice(&before);
+    }
+}
+
+/// Each byte of N, and of the numbers of a reference and a record, matters, in both editions with long strings.
+#[test]
+fn every_byte_of_a_number_counts() {
+    for edition in [117, 118] {
+        for order in ORDERS {
+            let mut file = with_references(edition, order, 5);
+            let layout = verdict(&file).expect("accepted");
+            for part in parts(&file, &layout).parts {
+                let refusals: &[u8] = match part.kind {
+                    // So many observations aren't there, or are too many.
+                    PartKind::N => &[3, 5],
+                    PartKind::StrlV | PartKind::StrlO | PartKind::RecordV | PartKind::RecordO => {
+                        &[11]
+                    }
+                    _ => continue,
+                };
+                for place in part.start..part.end {
+                    file[place] ^= 0x40;
+                    let refusal = verdict(&file).expect_err("refused");
+                    assert!(refusals.contains(&refusal), "{:?} {place}", part.kind);
+                    file[place] ^= 0x40;
+                }
+            }
         }
     }
 }

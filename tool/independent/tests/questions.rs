@@ -1,6 +1,7 @@
 //! The questions: the answers against the paper, and against what generated files hold.
 
 use independent::dead::dead;
+use independent::edition::NUMBERS as EDITIONS;
 use independent::generate::{self, Dataset, Made, Order};
 use independent::questions::{
     self, numbers, Answer, Cell, Kind, Numbers, Question, Span, Type, Why,
@@ -9,7 +10,6 @@ use independent::random::Random;
 use independent::sketch::{table, width, Sketch, Variable, X};
 use independent::{check, stated, Layout};
 
-const EDITIONS: [u8; 3] = [113, 114, 117];
 const ORDERS: [Order; 2] = [Order::Msf, Order::Lsf];
 
 fn answer(file: &[u8], layout: &Numbers, question: Question) -> Result<Answer, Why> {
@@ -103,6 +103,33 @@ fn editions_and_orders() -> impl Iterator<Item = (u8, Order)> {
     EDITIONS
         .into_iter()
         .flat_map(|edition| ORDERS.map(|order| (edition, order)))
+}
+
+fn is_tagged(edition: u8) -> bool {
+    edition >= 117
+}
+
+/// Length, name and padding of a label block.
+fn block_head(edition: u8) -> u64 {
+    if edition == 118 {
+        136
+    } else {
+        40
+    }
+}
+
+/// A record up to its contents.
+fn record_head(edition: u8) -> u64 {
+    if edition == 118 {
+        20
+    } else {
+        16
+    }
+}
+
+/// Editions with long strings.
+fn tagged_and_orders() -> impl Iterator<Item = (u8, Order)> {
+    editions_and_orders().filter(|(edition, _)| is_tagged(*edition))
 }
 
 // The paper's examples.
@@ -430,7 +457,7 @@ fn a_table_out_of_order_is_searched_by_halving() {
     for (edition, order) in editions_and_orders() {
         let entries = [(1, "a"), (2, "b"), (3, "c")];
         let (mut file, layout) = column(edition, order, Kind::Byte, &[1, 2, 3], &entries);
-        let values = file.len() - 3 * 4 - 6 - if edition == 117 { 6 + 15 + 12 } else { 0 };
+        let values = file.len() - 3 * 4 - 6 - if is_tagged(edition) { 6 + 15 + 12 } else { 0 };
         for (place, value) in [3, 1, 2].iter().enumerate() {
             let bytes = order.bytes(*value, 4);
             file[values + 4 * place..][..4].copy_from_slice(&bytes);
@@ -475,7 +502,7 @@ fn sort_places() {
             assert_eq!(place(&file, i), Answer::Number(due), "variable {i}");
         }
         // Behind the first zero, and twice.
-        let list = layout[8] as usize + if edition == 117 { 10 } else { 0 };
+        let list = layout[8] as usize + if is_tagged(edition) { 10 } else { 0 };
         file[list + 10..list + 12].copy_from_slice(&order.bytes(3, 2));
         assert_eq!(place(&file, 3), Answer::Number(0));
         file[list + 8..list + 10].copy_from_slice(&order.bytes(2, 2));
@@ -486,8 +513,8 @@ fn sort_places() {
 
 #[test]
 fn long_strings() {
-    for order in ORDERS {
-        let mut sketch = Sketch::new(117, order);
+    for (edition, order) in tagged_and_orders() {
+        let mut sketch = Sketch::new(edition, order);
         let strl = Variable {
             kind: Kind::Strl,
             ..X
@@ -509,7 +536,10 @@ fn long_strings() {
             kind,
             contents: Span { place, length },
         };
-        let (first, second, third) = (records + 16, records + 35, records + 51);
+        let head = record_head(edition);
+        let first = records + head;
+        let second = first + 3 + head;
+        let third = second + head;
         for (i, j, due) in [
             (1, 1, long(0, 0, 0)),
             (2, 1, long(130, first, 3)),
@@ -532,7 +562,9 @@ fn long_strings() {
 #[test]
 fn header_texts() {
     for (edition, order) in editions_and_orders() {
-        for (label, stamp) in [("", ""), ("A label", "10 Jul 2013 14:23")] {
+        let most = "é1".repeat(if edition == 118 { 107 } else { 27 });
+        let most: &'static str = most[..most.len() - 1].to_string().leak();
+        for (label, stamp) in [("", ""), ("A label", "10 Jul 2013 14:23"), (most, "")] {
             let mut sketch = Sketch::new(edition, order);
             (sketch.label, sketch.stamp) = (label, stamp);
             let file = sketch.file();
@@ -563,7 +595,7 @@ fn sixteen_comes_first_then_edition_and_order() {
     for (edition, order) in editions_and_orders() {
         let (file, layout) = column(edition, order, Kind::Int, &[1, 2], &[(1, "a")]);
         let mut layouts = Vec::new();
-        for edition in [0, 1, 112, 115, 116, 118, 113 + 256, u64::MAX] {
+        for edition in [0, 1, 112, 116, 119, 113 + 256, 118 + 256, u64::MAX] {
             layouts.push(with(&layout, 0, edition));
         }
         for order in [0, 3, 257, 258, u64::MAX] {
@@ -670,7 +702,7 @@ fn a_sort_list_ends_with_k() {
 #[test]
 fn an_answer_needs_a_beginning_of_the_file() {
     let made = (0..40).map(|seed| generate::file(&mut Random::new(seed)));
-    let cases = ["113-msf-small", "117-lsf-small"].map(stated::case);
+    let cases = ["113-msf-small", "117-lsf-small", "118-lsf-small"].map(stated::case);
     for file in made.chain(cases).filter(|file| file.len() < 2_500) {
         let layout = own(&file);
         for question in every_question(&layout).into_iter().step_by(3) {
@@ -694,11 +726,11 @@ fn an_answer_needs_a_beginning_of_the_file() {
 #[test]
 fn a_field_without_a_zero_ends_at_its_width() {
     for (edition, order) in editions_and_orders() {
-        let file = vec![b'%'; 2_000];
+        let file = vec![b'%'; 20_000];
         let code = if order == Order::Msf { 1 } else { 2 };
         let mut layout = [u64::from(edition); 18];
         (layout[1], layout[2], layout[3]) = (code, 3, 3);
-        let opening = |tag: usize| if edition == 117 { tag as u64 } else { 0 };
+        let opening = |tag: usize| if is_tagged(edition) { tag as u64 } else { 0 };
         let start = u64::from(edition);
         let due = |first: u64, width: u64| {
             let place = first + 2 * width;
@@ -707,21 +739,26 @@ fn a_field_without_a_zero_ends_at_its_width() {
                 length: width,
             })
         };
-        let format_width = if edition == 113 { 12 } else { 49 };
+        let (name, format, label) = match edition {
+            113 => (33, 12, 81),
+            118 => (129, 57, 321),
+            _ => (33, 49, 81),
+        };
         let ask = |question| ask(&file, &layout, question);
-        assert_eq!(ask(Question::Name(3)), due(start + opening(10), 33));
-        assert_eq!(
-            ask(Question::Format(3)),
-            due(start + opening(9), format_width)
-        );
-        assert_eq!(ask(Question::Set(3)), due(start + opening(19), 33));
-        assert_eq!(ask(Question::VarLabel(3)), due(start + opening(17), 81));
+        assert_eq!(ask(Question::Name(3)), due(start + opening(10), name));
+        assert_eq!(ask(Question::Format(3)), due(start + opening(9), format));
+        assert_eq!(ask(Question::Set(3)), due(start + opening(19), name));
+        assert_eq!(ask(Question::VarLabel(3)), due(start + opening(17), label));
         assert_eq!(ask(Question::Date(3)), Answer::Date(false));
         let header = |place, length| Answer::Text(Span { place, length });
         match edition {
             117 => {
                 assert_eq!(ask(Question::Label), header(95, 37));
                 assert_eq!(ask(Question::Stamp), header(152, 37));
+            }
+            118 => {
+                assert_eq!(ask(Question::Label), header(100, 0x2525));
+                assert_eq!(ask(Question::Stamp), header(120 + 0x2525, 37));
             }
             _ => {
                 assert_eq!(ask(Question::Label), header(10, 81));
@@ -750,13 +787,14 @@ fn two_blocks(edition: u8, order: Order) -> (Vec<u8>, Numbers) {
 fn label_blocks_end_with_their_part() {
     for (edition, order) in editions_and_orders() {
         let (file, right) = two_blocks(edition, order);
-        let tagged = edition == 117;
+        let tagged = is_tagged(edition);
         let (opening, closing) = if tagged { (14, 15) } else { (0, 0) };
         let marks = if tagged { 5 + 6 } else { 0 };
         let first = right[VALUE_LABELS] + opening;
-        let second = first + marks + 40 + 8 + 8 + 5;
+        let second = first + marks + block_head(edition) + 8 + 8 + 5;
         let end = right[END_TAG];
-        assert_eq!(second + marks + 40 + 8 + 16 + 7 + closing, end);
+        let head = block_head(edition);
+        assert_eq!(second + marks + head + 8 + 16 + 7 + closing, end);
         let sought = |layout: &Numbers| answer(&file, layout, Question::Words(1, 1));
         let unsought = |layout: &Numbers| answer(&file, layout, Question::Words(2, 1));
         let found = sought(&right);
@@ -793,16 +831,21 @@ fn label_blocks_end_with_their_part() {
 fn of_a_block_walked_over_head_and_counts_are_needed() {
     for (edition, order) in editions_and_orders() {
         let (file, right) = two_blocks(edition, order);
-        let (opening, marks) = if edition == 117 { (14 + 5, 11) } else { (0, 0) };
-        let second = right[VALUE_LABELS] + opening + marks + 40 + 21;
+        let (opening, marks) = if is_tagged(edition) {
+            (14 + 5, 11)
+        } else {
+            (0, 0)
+        };
+        let head = block_head(edition);
+        let second = right[VALUE_LABELS] + opening + marks + head + 21;
         // Up to the text length.
-        let needed = second as usize + 40 + 8;
+        let needed = (second + head) as usize + 8;
         let unsought = |length: usize| answer(&file[..length], &right, Question::Words(2, 1));
         assert_eq!(unsought(needed), Ok(Answer::Words(None)));
         assert_eq!(unsought(needed - 1), Err(Why::Outside));
         let sought = |length: usize| answer(&file[..length], &right, Question::Words(1, 1));
         // Up to the zero of the label.
-        let needed = second as usize + 40 + 24 + 4;
+        let needed = (second + head) as usize + 24 + 4;
         assert!(matches!(sought(needed), Ok(Answer::Words(Some(_)))));
         assert_eq!(sought(needed - 1), Err(Why::Outside));
     }
@@ -813,9 +856,9 @@ fn of_a_block_walked_over_head_and_counts_are_needed() {
 fn a_table_walked_over_is_as_long_as_it_says() {
     for (edition, order) in editions_and_orders() {
         let (file, layout) = two_blocks(edition, order);
-        let opening = if edition == 117 { 14 + 5 } else { 0 };
+        let opening = if is_tagged(edition) { 14 + 5 } else { 0 };
         let block = layout[VALUE_LABELS] as usize + opening;
-        let table = block + 40;
+        let table = block + block_head(edition) as usize;
         let changed = |place: usize, number: u64| {
             let mut file = file.clone();
             file[place..place + 4].copy_from_slice(&order.bytes(number, 4));
@@ -846,9 +889,14 @@ fn a_table_walked_over_is_as_long_as_it_says() {
 fn the_table_used_is_as_long_as_it_says() {
     for (edition, order) in editions_and_orders() {
         let (file, layout) = two_blocks(edition, order);
-        let (opening, marks) = if edition == 117 { (14 + 5, 11) } else { (0, 0) };
-        let block = layout[VALUE_LABELS] as usize + opening + marks + 40 + 21;
-        let table = block + 40;
+        let (opening, marks) = if is_tagged(edition) {
+            (14 + 5, 11)
+        } else {
+            (0, 0)
+        };
+        let head = block_head(edition) as usize;
+        let block = layout[VALUE_LABELS] as usize + opening + marks + head + 21;
+        let table = block + head;
         let changed = |place: usize, number: u64| {
             let mut file = file.clone();
             file[place..place + 4].copy_from_slice(&order.bytes(number, 4));
@@ -896,8 +944,9 @@ fn the_table_used_is_as_long_as_it_says() {
 
 #[test]
 fn records_end_with_their_part() {
-    for order in ORDERS {
-        let mut sketch = Sketch::new(117, order);
+    for (edition, order) in tagged_and_orders() {
+        let head = record_head(edition);
+        let mut sketch = Sketch::new(edition, order);
         let kind = Kind::Strl;
         sketch.variables = vec![Variable { kind, ..X }; 2];
         sketch.n = 1;
@@ -909,7 +958,7 @@ fn records_end_with_their_part() {
         let right = own(&file);
         let first = right[STRLS] + 7;
         let end = right[VALUE_LABELS];
-        assert_eq!(first + 16 + 16 + 3 + 8, end);
+        assert_eq!(first + 2 * head + 3 + 8, end);
         let (one, two) = (Question::Long(1, 1), Question::Long(2, 1));
         let ending = |end| with(&right, VALUE_LABELS, end);
         let long = |place, length| {
@@ -919,34 +968,81 @@ fn records_end_with_their_part() {
                 contents,
             })
         };
-        assert_eq!(answer(&file, &right, one), long(first + 16, 0));
-        assert_eq!(answer(&file, &right, two), long(first + 32, 3));
+        assert_eq!(answer(&file, &right, one), long(first + head, 0));
+        assert_eq!(answer(&file, &right, two), long(first + 2 * head, 3));
         assert_eq!(answer(&file, &ending(end - 1), two), Err(Why::Record));
-        assert_eq!(answer(&file, &ending(end - 1), one), long(first + 16, 0));
-        assert_eq!(answer(&file, &ending(end + 1), two), long(first + 32, 3));
-        assert_eq!(answer(&file, &ending(first + 24), two), Err(Why::NoRecord));
-        assert_eq!(answer(&file, &ending(first + 24), one), long(first + 16, 0));
-        assert_eq!(answer(&file, &ending(first + 23), one), Err(Why::Record));
+        assert_eq!(answer(&file, &ending(end - 1), one), long(first + head, 0));
+        assert_eq!(
+            answer(&file, &ending(end + 1), two),
+            long(first + 2 * head, 3)
+        );
+        assert_eq!(
+            answer(&file, &ending(first + head + 8), two),
+            Err(Why::NoRecord)
+        );
+        assert_eq!(
+            answer(&file, &ending(first + head + 8), one),
+            long(first + head, 0)
+        );
+        assert_eq!(
+            answer(&file, &ending(first + head + 7), one),
+            Err(Why::Record)
+        );
         for end in [0, 7, first, first + 8] {
             assert_eq!(answer(&file, &ending(end), one), Err(Why::NoRecord));
         }
         // The contents of the record that is meant, and those of one before it.
         let cut = |length: u64, question| answer(&file[..length as usize], &right, question);
-        assert_eq!(cut(first + 16, one), long(first + 16, 0));
-        assert_eq!(cut(first + 15, one), Err(Why::Outside));
-        assert_eq!(cut(first + 35, two), long(first + 32, 3));
-        assert_eq!(cut(first + 34, two), Err(Why::Outside));
+        assert_eq!(cut(first + head, one), long(first + head, 0));
+        assert_eq!(cut(first + head - 1, one), Err(Why::Outside));
+        assert_eq!(cut(first + 2 * head + 3, two), long(first + 2 * head, 3));
+        assert_eq!(cut(first + 2 * head + 2, two), Err(Why::Outside));
         // The reference (0,0) needs no record, (0,1) and (1,0) do.
         let data = right[4 + 9] as usize + 6;
         for (v, o, due) in [
             (0, 0, None),
             (0, 1, Some(Why::NoRecord)),
             (1, 0, Some(Why::NoRecord)),
+            (1, 1 + (1 << 31), Some(Why::NoRecord)),
+            (1 + (1 << 15), 1, Some(Why::NoRecord)),
         ] {
             let mut file = file.clone();
-            file[data..data + 4].copy_from_slice(&order.bytes(v, 4));
-            file[data + 4..data + 8].copy_from_slice(&order.bytes(o, 4));
+            let width = if edition == 118 { 2 } else { 4 };
+            let reference = [order.bytes(v, width), order.bytes(o, 8 - width)].concat();
+            file[data..data + 8].copy_from_slice(&reference);
             assert_eq!(answer(&file, &right, one).err(), due, "({v},{o})");
+        }
+    }
+}
+
+/// Every byte of a reference of 118, which only a wrong file can fill.
+#[test]
+fn all_bytes_of_a_reference_are_read() {
+    for order in ORDERS {
+        let mut sketch = Sketch::new(118, order);
+        let kind = Kind::Strl;
+        sketch.variables = vec![Variable { kind, ..X }];
+        sketch.n = 1;
+        let (v, o) = (0xfedc, 0xba98_7654_3210);
+        sketch.reference(1, 1);
+        sketch.record(1, 1, 129, b"a");
+        let mut file = sketch.file();
+        let layout = own(&file);
+        let data = layout[4 + 9] as usize + 6;
+        file[data..data + 2].copy_from_slice(&order.bytes(v, 2));
+        file[data + 2..data + 8].copy_from_slice(&order.bytes(o, 6));
+        assert_eq!(cell(&file, &layout, 1, 1), Cell::Reference { v, o });
+        let long = Question::Long(1, 1);
+        assert_eq!(answer(&file, &layout, long), Err(Why::NoRecord));
+        // Its record, and others that share all but one byte of the two numbers.
+        let record = layout[STRLS] as usize + 7 + 3;
+        let stored = [order.bytes(v, 4), order.bytes(o, 8)].concat();
+        file[record..record + 12].copy_from_slice(&stored);
+        assert_eq!(text(&file, &layout, long), b"a");
+        for place in record..record + 12 {
+            file[place] ^= 1;
+            assert_eq!(answer(&file, &layout, long), Err(Why::NoRecord), "{place}");
+            file[place] ^= 1;
         }
     }
 }
@@ -956,10 +1052,10 @@ fn records_end_with_their_part() {
 fn all_type_codes_are_on_the_way() {
     for (edition, order) in editions_and_orders() {
         let (mut file, layout) = column(edition, order, Kind::Int, &[1], &[(1, "a")]);
-        let types = layout[NAMES - 1] as usize + if edition == 117 { 16 } else { 0 };
-        let second = types + if edition == 117 { 2 } else { 1 };
+        let types = layout[NAMES - 1] as usize + if is_tagged(edition) { 16 } else { 0 };
+        let second = types + if is_tagged(edition) { 2 } else { 1 };
         for code in [0, 245, 250, 2046, 32767, 32769, 65525, 65531, 65535] {
-            if edition == 117 {
+            if is_tagged(edition) {
                 file[second..second + 2].copy_from_slice(&order.bytes(code, 2));
                 if code == 245 || code == 250 {
                     continue;
@@ -1040,9 +1136,9 @@ fn many_variables() {
 
 #[test]
 fn many_observations_and_entries() {
-    for order in ORDERS {
+    for (edition, order) in tagged_and_orders() {
         let n = 70_000;
-        let mut sketch = Sketch::new(117, order);
+        let mut sketch = Sketch::new(edition, order);
         let (long, strl) = (Kind::Long, Kind::Strl);
         sketch.variables = vec![
             Variable {
@@ -1223,7 +1319,7 @@ impl Holds<'_> {
                 Some(None)
             }
             generate::Cell::Reference((v, o)) => {
-                let (v, o) = (*v as u32, *o as u32);
+                let (v, o) = (*v, *o);
                 assert_eq!(said, Cell::Reference { v, o }, "{place}");
                 Some(None)
             }

@@ -7,6 +7,7 @@
 use independent::damage::Source;
 use independent::dataset::{dataset, outline, Block, Cell, Dataset, Entry, Record, Type, Variable};
 use independent::dead::dead;
+use independent::edition::{Edition, NUMBERS};
 use independent::generate::Order;
 use independent::parts::parts;
 use independent::random::Random;
@@ -24,22 +25,18 @@ const MARGIN: usize = 16;
 const BOUND: u64 = 2_147_483_647;
 
 /// Each kind of answer and of accepted files with dead bytes, and how often it has to occur so that the test says something.
-const KINDS: [(&str, u64); 41] = [
+const KINDS: [(&str, u64); 37] = [
     ("done", 10_000),
-    ("done from 113 to 113", 500),
-    ("done from 113 to 114", 500),
-    ("done from 113 to 117", 500),
-    ("done from 114 to 113", 500),
-    ("done from 114 to 114", 500),
-    ("done from 114 to 117", 500),
-    ("done from 117 to 113", 500),
-    ("done from 117 to 114", 500),
-    ("done from 117 to 117", 500),
     ("14", 10_000),
     ("15 by target", 2_000),
     ("15 by strL alone", 500),
     ("15 by wide text alone", 200),
-    ("15 by format alone", 500),
+    ("15 by label alone", 50),
+    ("15 by name alone", 50),
+    ("15 by format alone", 300),
+    ("15 by set alone", 50),
+    ("15 by variable label alone", 50),
+    ("15 by block name alone", 50),
     ("15 by more than one", 500),
     ("2", 100),
     ("3", 100),
@@ -68,18 +65,22 @@ const KINDS: [(&str, u64); 41] = [
     ("dead Text", 200),
 ];
 
-const UNOFFERED_EDITIONS: [u64; 12] = [
+/// How often each edition has to be rewritten to each.
+const EACH_WAY: u64 = 200;
+
+const UNOFFERED_EDITIONS: [u64; 13] = [
     0,
     1,
     112,
-    115,
     116,
-    118,
+    119,
     255,
     256 + 113,
+    256 + 118,
     (1 << 32) + 113,
     (1 << 32) + 114,
     (1 << 32) + 117,
+    (1 << 32) + 118,
     u64::MAX,
 ];
 const UNOFFERED_ORDERS: [u64; 6] = [0, 3, 257, (1 << 32) + 1, (1 << 32) + 2, u64::MAX];
@@ -91,7 +92,7 @@ fn unoffered() -> Vec<(u64, u64)> {
         unoffered.extend([0, 1, 2].map(|order| (edition, order)));
     }
     for order in UNOFFERED_ORDERS {
-        unoffered.extend([113, 114, 117].map(|edition| (edition, order)));
+        unoffered.extend(NUMBERS.map(|edition| (u64::from(edition), order)));
     }
     unoffered
 }
@@ -254,7 +255,8 @@ impl Comparison<'_> {
         }
         // Dead bytes of a result are zero, but for the unused one.
         let dead = dead(&result, &found);
-        let right = |place: &usize| result[*place] == u8::from(found.edition != 117 && *place == 3);
+        let unused = !Edition::known(found.edition).tagged;
+        let right = |place: &usize| result[*place] == u8::from(unused && *place == 3);
         if !dead.iter().all(right) {
             return Err(format!("{target:?} has dead bytes"));
         }
@@ -272,7 +274,12 @@ impl Comparison<'_> {
         self.count(match reasons {
             [Unheld::Strl] => "15 by strL alone",
             [Unheld::WideText] => "15 by wide text alone",
+            [Unheld::LongLabel] => "15 by label alone",
+            [Unheld::LongName] => "15 by name alone",
             [Unheld::LongFormat] => "15 by format alone",
+            [Unheld::LongSet] => "15 by set alone",
+            [Unheld::LongVariableLabel] => "15 by variable label alone",
+            [Unheld::LongBlockName] => "15 by block name alone",
             [Unheld::TooLong] => "15 by length alone",
             _ => "15 by more than one",
         });
@@ -307,10 +314,20 @@ fn setting(name: &str, usual: u64) -> u64 {
     }
 }
 
-/// A generated file of 117 with the widest texts and longest formats that 113 and 114 hold, or one more, and mostly without strLs.
+/// A text that another edition's field holds just so, or, where it may be over, one that it doesn't.
+fn edge(random: &mut Random, field: usize, over: bool) -> Vec<u8> {
+    let length = match over && random.once_in(2) {
+        true => random.pick(&[field, field + 1, field + 7]),
+        false => random.pick(&[field - 1, field - 2]),
+    };
+    random.text(length)
+}
+
+/// A generated file of 117 or 118 with the widest and longest texts that other editions hold, or longer ones of one or more kinds, and mostly without strLs.
 fn at_the_edges(random: &mut Random) -> Vec<u8> {
     let order = random.pick(&[Order::Msf, Order::Lsf]);
-    let file = generate::file_of(random, 117, order);
+    let edition = random.pick(&[117, 118]);
+    let file = generate::file_of(random, edition, order);
     let mut dataset = dataset(&file, &check(&file).expect("accepted"));
     if random.once_in(4) || dataset.n > 60 {
         return file;
@@ -323,12 +340,17 @@ fn at_the_edges(random: &mut Random) -> Vec<u8> {
                 false => random.pick(&[243, 244]),
             });
         }
-        let format = match long && random.once_in(2) {
-            true => 12,
-            false => random.pick(&[10, 11]),
-        };
-        variable.format = random.text(format);
+        variable.format = edge(random, 12, long);
     }
+    without_references(random, &mut dataset);
+    if edition == 118 {
+        texts_at_the_edges(random, &mut dataset);
+    }
+    write(&dataset, target(edition, order))
+}
+
+/// Texts of full or nearly full width in the place of references.
+fn without_references(random: &mut Random, dataset: &mut Dataset) {
     let types: Vec<Type> = dataset.variables.iter().map(|each| each.of).collect();
     for (cell, of) in dataset.cells.iter_mut().zip(types.iter().cycle()) {
         if let Cell::Reference { .. } = cell {
@@ -338,7 +360,25 @@ fn at_the_edges(random: &mut Random) -> Vec<u8> {
         }
     }
     dataset.records.clear();
-    write(&dataset, target(117, order))
+}
+
+/// Mostly at most one kind of text is longer than a field of the other editions.
+fn texts_at_the_edges(random: &mut Random, dataset: &mut Dataset) {
+    let over = random.below(9);
+    let two = random.once_in(6);
+    let is = |kind: usize| over == kind || two && (over + 1) % 6 == kind;
+    dataset.label = edge(random, 81, is(0));
+    for variable in &mut dataset.variables {
+        variable.name = edge(random, 33, is(1));
+        variable.set = edge(random, 33, is(2));
+        variable.label = edge(random, 81, is(3));
+        if is(4) && random.once_in(2) {
+            variable.format = edge(random, 49, true);
+        }
+    }
+    for block in &mut dataset.blocks {
+        block.name = edge(random, 33, is(5));
+    }
 }
 
 /// The files of tests/, then so many sources with damaged copies. What was compared, up to the first difference.
@@ -426,8 +466,12 @@ fn all_alike(name: &str, rewrite: &Rewrite) {
     }
     writeln!(std::io::stdout(), "{line}").expect("the line is written");
     if sources >= REWRITTEN {
-        for (kind, least) in KINDS {
-            let count = outcome.counts.get(kind).copied().unwrap_or(0);
+        let ways = NUMBERS
+            .iter()
+            .flat_map(|from| NUMBERS.map(|to| (format!("done from {from} to {to}"), EACH_WAY)));
+        let kinds = KINDS.map(|(kind, least)| (kind.to_string(), least));
+        for (kind, least) in kinds.into_iter().chain(ways) {
+            let count = outcome.counts.get(&kind).copied().unwrap_or(0);
             assert!(count >= least, "{kind} occurred {count} times only");
         }
     }
@@ -451,7 +495,7 @@ fn the_harness_finds_what_is_wrong() {
         .collect();
     let mut missed = Vec::new();
     let wrong = stand_in::wrong();
-    assert!(wrong.len() >= 50);
+    assert!(wrong.len() >= 80);
     for (name, rewrite) in wrong {
         if compare(&rewrite, &stated, 300).difference.is_none() {
             missed.push(name);
@@ -499,24 +543,30 @@ fn length_bound(rewrite: &Rewrite) -> Compared {
     let comparison = &mut Comparison::new(rewrite, 0);
     let short = one(Type::Byte);
     for order in [Order::Msf, Order::Lsf] {
-        let (old, tagged) = (target(114, order), target(117, order));
-        let [old_most, tagged_most] = [old, tagged].map(|to| BOUND - held(&short, to).unwrap());
-        // The longest result of 117, one byte more, and the longest file of 114.
-        for (n, number) in [(tagged_most, 14), (tagged_most + 1, 15), (old_most, 15)] {
+        let old = target(114, order);
+        let most = |edition| BOUND - held(&short, target(edition, order)).unwrap();
+        // The longest result of 118, one byte more, the same of 117, and the longest file of 114.
+        for n in [
+            most(118),
+            most(118) + 1,
+            most(117),
+            most(117) + 1,
+            most(114),
+        ] {
             let file = column(old, n, 0);
             let layout = check(&file).expect("accepted");
             let outline = outline(&file, &layout);
             for to in TARGETS {
-                let number = if to.edition == 117 { number } else { 14 };
+                let number = if n <= most(to.edition) { 14 } else { 15 };
                 assert_eq!(held(&outline, to).is_ok(), number == 14);
                 for room in [0, 1_000] {
                     comparison.call(&file, to.numbers(), room, Err(number))?;
                 }
             }
-            comparison.call(&file, (118, 1), 1_000, Err(15))?;
+            comparison.call(&file, (119, 1), 1_000, Err(15))?;
         }
-        let file = column(old, old_most, 1);
-        for (edition, order) in [(114, 1), (117, 2), (118, 3)] {
+        let file = column(old, most(114), 1);
+        for (edition, order) in [(114, 1), (117, 2), (118, 2), (119, 3)] {
             comparison.call(&file, (edition, order), 1_000, Err(1))?;
         }
     }
@@ -594,25 +644,27 @@ fn large() -> Vec<Dataset> {
 
 fn large_files(rewrite: &Rewrite) -> Compared {
     let comparison = &mut Comparison::new(rewrite, 0);
-    let lsf = target(117, Order::Lsf);
-    for dataset_of_file in large() {
-        let file = write(&dataset_of_file, lsf);
-        let layout = check(&file).expect("accepted");
-        assert!(dataset(&file, &layout) == dataset_of_file);
-        for to in [
-            target(113, Order::Lsf),
-            target(114, Order::Msf),
-            target(117, Order::Msf),
-        ] {
-            let (numbers, room) = (to.numbers(), file.len());
-            if held(&dataset_of_file, to).is_err() {
-                comparison.call(&file, numbers, room, Err(15))?;
-                continue;
+    for from in [target(117, Order::Lsf), target(118, Order::Msf)] {
+        for dataset_of_file in large() {
+            let file = write(&dataset_of_file, from);
+            let layout = check(&file).expect("accepted");
+            assert!(dataset(&file, &layout) == dataset_of_file);
+            for to in [
+                target(113, Order::Lsf),
+                target(115, Order::Msf),
+                target(117, Order::Msf),
+                target(118, Order::Lsf),
+            ] {
+                let (numbers, room) = (to.numbers(), file.len());
+                if held(&dataset_of_file, to).is_err() {
+                    comparison.call(&file, numbers, room, Err(15))?;
+                    continue;
+                }
+                let result = write(&dataset_of_file, to);
+                comparison.call(&file, numbers, result.len(), Ok(&result))?;
+                comparison.call(&file, numbers, result.len() - 1, Err(14))?;
+                comparison.call(&result, from.numbers(), room, Ok(&file))?;
             }
-            let result = write(&dataset_of_file, to);
-            comparison.call(&file, numbers, result.len(), Ok(&result))?;
-            comparison.call(&file, numbers, result.len() - 1, Err(14))?;
-            comparison.call(&result, lsf.numbers(), room, Ok(&file))?;
         }
     }
     Ok(())
@@ -673,7 +725,7 @@ fn blocks_of_rows(rewrite: &Rewrite) -> Compared {
     for seed in 0..300 {
         let random = &mut Random::new(seed);
         let order = random.pick(&[Order::Msf, Order::Lsf]);
-        let file = write(&rows(random), target(random.pick(&[113, 114, 117]), order));
+        let file = write(&rows(random), target(random.pick(&NUMBERS), order));
         let compared = comparison.file(&file);
         compared.map_err(|difference| format!("rows of seed {seed}: {difference}"))?;
     }
@@ -690,7 +742,7 @@ fn a_wrong_block_is_found() {
                 let row = outline(&out[..length as usize], &layout).row();
                 let place = BLOCK / (row + 1) + after;
                 if row > 0 && place < u64::from(layout.n) {
-                    let data = layout.positions[9] + if layout.edition == 117 { 6 } else { 0 };
+                    let data = layout.positions[9] + if layout.edition >= 117 { 6 } else { 0 };
                     out[(data + place * row) as usize] ^= 1;
                 }
             }
@@ -748,7 +800,7 @@ mod library {
     fn what_lies_behind_the_answer_is_left_as_it_came() {
         let file = stated::case("114-lsf-typical");
         let due = stand_in::right(&file, 117, 1, &mut vec![0; 20_000]);
-        for (edition, room, due) in [(117, 20_000, due), (117, 1, (14, 0)), (1, 1, (15, 0))] {
+        for (edition, room, due) in [(117, 20_000, due), (118, 1, (14, 0)), (1, 1, (15, 0))] {
             let mut len = [7; 4];
             let number = call_rewrite(&file, edition, 1, &mut vec![0; room], &mut len);
             assert_eq!((u64::from(number), len), (due.0, [due.1, 7, 7, 7]));
@@ -762,7 +814,7 @@ mod library {
     fn a_stack_of_512_kib_is_enough() {
         let called = || {
             for stated in stated::all() {
-                let room = 2 * stated.file.len() + 1_000;
+                let room = 4 * stated.file.len() + 2_000;
                 let [mut out, mut due] = [0, 1].map(|_| vec![7; room]);
                 for (edition, order) in TARGETS.map(Target::numbers) {
                     let answer = rewrite(&stated.file, edition, order, &mut out);

@@ -42,10 +42,10 @@ fn generated_files() {
     compare(&files, 500, &[0, 15]);
 }
 
-/// 340 variables are too many for 114 and 117, and a few less for 117 alone.
+/// 340 variables are too many for 114, 115 and 117, a few less for 117 alone, and about a hundred for 118.
 #[test]
 fn results_that_have_no_room() {
-    let files = [320, 322, 323, 340, 398].map(|k| {
+    let files = [90, 100, 101, 102, 103, 320, 322, 323, 340, 398].map(|k| {
         changed("cases/113-msf-wide.dta", 113, |dataset| {
             let all = dataset.variables.len();
             dataset.variables.truncate(k);

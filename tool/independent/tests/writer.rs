@@ -1,6 +1,7 @@
 //! The independent writer: files by hand, the files of tests/, and what a target can't hold.
 
-use independent::dataset::{dataset, Block, Cell, Dataset, Entry, Record, Type, Variable};
+use independent::dataset::{dataset, outline, Block, Cell, Dataset, Entry, Record, Type, Variable};
+use independent::edition::NUMBERS;
 use independent::generate::{self, made, Order};
 use independent::questions::{ask, numbers, Answer, Question, Span};
 use independent::random::Random;
@@ -235,23 +236,35 @@ fn long_strings_by_hand() {
 
 // The files of tests/.
 
-/// The reasons are worked out here by the types and formats that the questions tell.
+/// The reasons are worked out here by what the questions tell, and by the blocks of the dataset.
 fn holds(file: &[u8], edition: u64) -> bool {
-    let layout = numbers(&check(file).expect("accepted"));
-    edition == 117
-        || (1..=layout[2]).all(|i| {
-            let wide = match ask(file, &layout, Question::Type(i)) {
-                Answer::Type(of) => match of.kind {
-                    independent::questions::Kind::Strl => true,
-                    _ => of.width > 244,
-                },
-                other => panic!("{other:?}"),
-            };
-            let long = match ask(file, &layout, Question::Format(i)) {
-                Answer::Text(span) => span.length > 11,
-                other => panic!("{other:?}"),
-            };
-            !wide && (edition == 114 || !long)
+    let checked = check(file).expect("accepted");
+    let layout = numbers(&checked);
+    let (most_label, name, format, label) = match edition {
+        113 => (80, 32, 11, 80),
+        118 => (320, 128, 56, 320),
+        _ => (80, 32, 48, 80),
+    };
+    let length = |question| match ask(file, &layout, question) {
+        Answer::Text(span) => span.length as usize,
+        other => panic!("{other:?}"),
+    };
+    let wide = |i| match ask(file, &layout, Question::Type(i)) {
+        Answer::Type(of) => {
+            of.kind == independent::questions::Kind::Strl
+                || of.kind == independent::questions::Kind::Text && of.width > 244
+        }
+        other => panic!("{other:?}"),
+    };
+    let blocks = outline(file, &checked).blocks;
+    length(Question::Label) <= most_label
+        && blocks.iter().all(|block| block.name.len() <= name)
+        && (1..=layout[2]).all(|i| {
+            (edition > 115 || !wide(i))
+                && length(Question::Name(i)) <= name
+                && length(Question::Format(i)) <= format
+                && length(Question::Set(i)) <= name
+                && length(Question::VarLabel(i)) <= label
         })
 }
 
@@ -461,7 +474,7 @@ fn target(edition: u64) -> Target {
 }
 
 #[test]
-fn what_113_and_114_cannot_hold() {
+fn types_and_formats_that_old_editions_cannot_hold() {
     // Eleven bytes and twelve.
     let (short, long) = (b"%tcDDmonCCY", b"%tcDDmonCCYY");
     for (of, format, reasons) in [
@@ -488,7 +501,8 @@ fn what_113_and_114_cannot_hold() {
         let dataset = one(of, format);
         let file = write(&dataset, target(117));
         assert_eq!(dataset_of(&file), dataset);
-        for (edition, reasons) in [113, 114].into_iter().zip(reasons) {
+        let [first, later] = reasons;
+        for (edition, reasons) in [(113, first), (114, later), (115, later)] {
             assert_eq!(
                 held(&dataset, target(edition)).err().unwrap_or_default(),
                 reasons
@@ -500,6 +514,81 @@ fn what_113_and_114_cannot_hold() {
         }
         for order in [1, 2] {
             assert_eq!(result(&file, 117, order).err(), None);
+            assert_eq!(result(&file, 118, order).err(), None);
+        }
+    }
+}
+
+/// Which editions hold a dataset, of 113, 114, 115, 117 and 118.
+fn holders(dataset: &Dataset, reason: Unheld) -> [bool; 5] {
+    NUMBERS.map(|edition| match held(dataset, target(u64::from(edition))) {
+        Ok(_) => true,
+        Err(reasons) => {
+            assert_eq!(reasons, [reason], "{edition}");
+            false
+        }
+    })
+}
+
+#[test]
+fn texts_that_other_editions_cannot_hold() {
+    let all = [true; 5];
+    let but_113 = [false, true, true, true, true];
+    let none_but_118 = [false, false, false, false, true];
+    let with = |length: usize, put: fn(&mut Dataset, Vec<u8>)| {
+        let mut dataset = one(Type::Byte, b"%9.0g");
+        put(&mut dataset, vec![b'x'; length]);
+        dataset
+    };
+    type Put = fn(&mut Dataset, Vec<u8>);
+    let texts: [(Unheld, Put, &[(usize, [bool; 5])]); 6] = [
+        (
+            Unheld::LongLabel,
+            |dataset, text| dataset.label = text,
+            &[(80, all), (81, none_but_118), (320, none_but_118)],
+        ),
+        (
+            Unheld::LongName,
+            |dataset, text| dataset.variables[0].name = text,
+            &[(32, all), (33, none_but_118), (128, none_but_118)],
+        ),
+        (
+            Unheld::LongFormat,
+            |dataset, text| dataset.variables[0].format = text,
+            &[
+                (11, all),
+                (12, but_113),
+                (48, but_113),
+                (49, none_but_118),
+                (56, none_but_118),
+            ],
+        ),
+        (
+            Unheld::LongSet,
+            |dataset, text| dataset.variables[0].set = text,
+            &[(32, all), (33, none_but_118), (128, none_but_118)],
+        ),
+        (
+            Unheld::LongVariableLabel,
+            |dataset, text| dataset.variables[0].label = text,
+            &[(80, all), (81, none_but_118), (320, none_but_118)],
+        ),
+        (
+            Unheld::LongBlockName,
+            |dataset, text| dataset.blocks[0].name = text,
+            &[(32, all), (33, none_but_118), (128, none_but_118)],
+        ),
+    ];
+    for (reason, put, lengths) in texts {
+        for (length, due) in lengths {
+            let dataset = with(*length, put);
+            assert_eq!(holders(&dataset, reason), *due, "{reason:?}, {length}");
+            let file = write(&dataset, target(118));
+            assert_eq!(dataset_of(&file), dataset);
+            for (edition, held) in NUMBERS.into_iter().zip(due) {
+                let number = result(&file, u64::from(edition), 1).err();
+                assert_eq!(number, (!held).then_some(15), "{reason:?}, {length}");
+            }
         }
     }
 }
@@ -512,8 +601,8 @@ fn the_numbers_come_in_their_order() {
     assert_eq!(rewritten(&file, 117, 2, room - 1), Err(14));
     assert_eq!(rewritten(&file, 117, 2, 0), Err(14));
     assert_eq!(rewritten(&file, 113, 2, 0), Err(15));
-    assert_eq!(rewritten(&file[..room as usize - 1], 118, 3, 0), Err(3));
-    for edition in [0, 112, 115, 116, 118, (1 << 32) + 117, u64::MAX] {
+    assert_eq!(rewritten(&file[..room as usize - 1], 119, 3, 0), Err(3));
+    for edition in [0, 112, 116, 119, (1 << 32) + 117, u64::MAX] {
         assert_eq!(rewritten(&file, edition, 2, room), Err(15));
     }
     for order in [0, 3, (1 << 32) + 1, u64::MAX] {

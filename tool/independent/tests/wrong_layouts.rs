@@ -19,7 +19,7 @@ const LAYOUTS: u64 = 5;
 /// Cells that are asked with one layout.
 const CELLS: u64 = 3;
 /// Files whose tables and records are damaged.
-const TABLES: u64 = 20_000;
+const TABLES: u64 = 25_000;
 /// How often each kind of answer has to occur, so that the test says something.
 const LEAST: u64 = 200;
 /// Records that the program is given at once.
@@ -49,7 +49,7 @@ fn kind(file: &[u8], layout: &Numbers, question: Question, due: Result<Answer, W
         Ok(Answer::Type(of)) => return format!("type {:?}", of.kind),
         Ok(Answer::Text(span)) => match span.length {
             0 => "text empty",
-            12 | 33 | 49 | 81 => "text of full width",
+            12 | 33 | 49 | 81 | 57 | 129 | 321 => "text of full width",
             _ => "text",
         },
         Ok(Answer::Column { .. }) => "column",

@@ -1,4 +1,4 @@
-/* Stata .dta files of editions 113, 114 and 117, by a proved library. Link libdta.a and libdta_facts.a.
+/* Stata .dta files of editions 113, 114, 115, 117 and 118, by a proved library. Link libdta.a and libdta_facts.a.
  *
  * A slice passes as a pointer and then a length; slices of one call don't overlap, and a pointer is not null, also where the length is 0. Nothing is kept after a
  * call, nothing is allocated, and any bytes may be handed in. The stack needs 512 KiB, for dta_words_across 1 MiB. Refusals are numbers of the table in document 01.
@@ -26,7 +26,7 @@ extern "C" {
  * given and nothing is stored, so a caller who wants the verdict alone lends none (a length of 0). */
 uint8_t dta_check(const uint8_t *file, size_t file_len, uint64_t *layout, size_t layout_len);
 
-/* Writes the file's dataset in an edition (113, 114, 117) and a byte order (1 MSF, 2 LSF) at the start of `out`: 0, or the refusal's number, with which `out` is as
+/* Writes the file's dataset in an edition (113, 114, 115, 117, 118) and a byte order (1 MSF, 2 LSF) at the start of `out`: 0, or the refusal's number, with which `out` is as
  * it came. The result's length is stored in the first place of `len`, where it has one; 0 with a refusal. */
 uint8_t dta_rewrite(const uint8_t *file, size_t file_len, uint64_t edition, uint64_t order, uint8_t *out, size_t out_len, uint64_t *len, size_t len_len);
 
@@ -58,7 +58,7 @@ enum dta_answer {
     DTA_REFUSED,   /* the refusal's number */
     DTA_COUNT,     /* a number */
     DTA_YES_NO,    /* 1 or 0 */
-    DTA_TYPE,      /* the type's code in edition 117 */
+    DTA_TYPE,      /* the type's code in editions 117 and 118 */
     DTA_PART,      /* place, length: a text of the file, or a label found */
     DTA_PLAIN,     /* no label is found: the caller's plain text is shown */
     DTA_WHOLE,     /* the number's size; 1 where it is negative */

@@ -86,7 +86,7 @@ pub enum Type {
 }
 
 impl Type {
-    /// By its code in edition 117.
+    /// By its code in editions 117 and 118.
     fn of(code: u64) -> Option<Type> {
         Some(match code {
             32768 => Type::StrL,

@@ -1,5 +1,5 @@
 use crate::answer::{Answer, Question, Type};
-use crate::lists::{list, LabelSets, LongStrings};
+use crate::lists::{list, part, LabelSets, LongStrings};
 use crate::many::{Column, ColumnWords, RowWords, Rows};
 use crate::{raw, Cell, Refusal, Words, LONGEST};
 
@@ -269,7 +269,7 @@ impl<B: AsRef<[u8]>> File<B> {
 
     // Rewriting.
 
-    /// Writes the dataset at the start of `out`, in an edition and a byte order: how many bytes. Refused, `out` is as it came.
+    /// Writes the dataset at the start of `out`, in one of the [`EDITIONS`](crate::EDITIONS) and a byte order: how many bytes. Refused, `out` is as it came.
     pub fn rewrite(
         &self,
         edition: u64,
@@ -300,12 +300,14 @@ impl<B: AsRef<[u8]>> File<B> {
         }
     }
 
-    /// Room for a result in any edition: a variable takes 38 bytes more at most, a label block of at least 48 bytes 11 more, and the tags take less than
-    /// 1,000.
+    /// Room for a result in any edition. From 113 to 118, a variable takes 478 bytes more, and a label block, which has at least 48 bytes, 107 more; from 117
+    /// to 118, a record of at least 16 bytes takes 4 more. The tags take less than 1,000.
     fn room(&self) -> usize {
+        let variables = 478 * self.variable_count() as usize;
+        let blocks = 107 * (part(&self.layout, 11) / 48);
+        let records = 4 * (part(&self.layout, 10) / 16);
         let length = self.bytes().len();
-        let more = 38 * self.variable_count() as usize + 1_000;
-        (length + length / 4 + more).min(LONGEST)
+        (length + variables + blocks + records + 1_000).min(LONGEST)
     }
 
     fn text(&self, question: Question) -> Result<&[u8], Refusal> {

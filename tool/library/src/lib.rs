@@ -1,4 +1,4 @@
-//! Stata `.dta` files of editions 113, 114 and 117, by a proved library: what it answers comes from the facts in the file and from nowhere else.
+//! Stata `.dta` files of editions 113, 114, 115, 117 and 118, by a proved library: what it answers comes from the facts in the file and from nowhere else.
 //!
 //! ```no_run
 //! let bytes = std::fs::read("readings.dta").unwrap();
@@ -30,6 +30,9 @@ pub use file::{open, ByteOrder, File, Layout, Variable};
 pub use lists::{Entries, LabelSet, LabelSets, LongString, LongStrings};
 pub use many::{Column, ColumnWords, RowWords, Rows};
 pub use refusal::Refusal;
+
+/// The editions that are read and written. 116 and 119 are not.
+pub const EDITIONS: [u64; 5] = [113, 114, 115, 117, 118];
 
 /// The greatest length of a file in bytes, and the greatest number of observations.
 pub const LONGEST: usize = 2_147_483_647;

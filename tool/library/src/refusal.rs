@@ -18,9 +18,9 @@ impl Refusal {
     pub fn rule(self) -> &'static str {
         match self.0 {
             1 => "file over the length bound",
-            2 => "starts with none of byte 113, byte 114, the 41 bytes",
+            2 => "starts with none of bytes 113, 114, 115 and the 41 bytes of 117 or 118",
             3 => "a part or tag needs more bytes than remain",
-            4 => "a 117 tag differs",
+            4 => "a tag differs",
             5 => "byte order, file type, K, N, dataset label or stamp breaks its rule",
             6 => "type code unknown",
             7 => "text field after the header unended, or a name empty",

@@ -50,7 +50,9 @@ fn the_example_says_and_rewrites() {
     for (edition, line) in [
         ("113", "113 LSF 6 8 1730"),
         ("114", "114 LSF 6 8 1952"),
+        ("115", "115 LSF 6 8 1952"),
         ("117", "117 LSF 6 8 2459"),
+        ("118", "118 LSF 6 8 5296"),
     ] {
         let sample = here(&format!("../../samples/readings-{edition}.dta"));
         let output = run(&program, &[&sample, &out]);

@@ -3,7 +3,7 @@
 use crate::{output, End};
 
 pub const GENERAL: &str = "\
-dta: what a Stata .dta file (editions 113, 114, 117) says, and the file rewritten
+dta: what a Stata .dta file (editions 113, 114, 115, 117, 118) says, and the file rewritten
 
   dta check FILE..                     whether each file is accepted
   dta info FILE                        what the file says of itself and of its variables
@@ -61,14 +61,17 @@ letters are shown as ., .a to .z. Control characters in texts are written out.
 ";
 
 const REWRITE: &str = "\
-dta rewrite --edition 113|114|117 --order msf|lsf [--force] IN OUT
+dta rewrite --edition 113|114|115|117|118 --order msf|lsf [--force] IN OUT
 
 Writes the dataset of IN to OUT, as a file of that edition and byte order. Bytes that the format leaves unused are set anew.
 
   --force   replaces OUT where it exists. IN is never replaced
 
+The edition must hold the dataset. Only 117 and 118 have strL, and texts of more than 244 bytes; 113 has display formats of at most 11 bytes, 114, 115 and 117 of at
+most 48, 118 of at most 56. All but 118 have names of at most 32 bytes and labels of at most 80, 118 names of at most 128 and labels of at most 320.
+
 IN may be - for standard input, OUT - for standard output. OUT is written beside itself, synced and then renamed: it is there as a whole, or as it was. A
-refusal leaves nothing behind; it is told as `refused NUMBER`, with the reason on standard error.
+refusal leaves nothing behind; it is told as `refused NUMBER`, with the reason on standard error: what the edition can't hold, and which editions can.
 ";
 
 const LAYOUT: &str = "\
@@ -102,7 +105,7 @@ const BENCH: &str = "\
 dta bench [--size MEGABYTES]
 
 Makes files in memory and times memcpy, checking, reading every cell, reading label words and rewriting on them, at the size (100) and at half of it; and hostile
-files.
+files; and rewriting files of 118 beside those of 117 with the same data.
 ";
 
 /// The help of a command.

@@ -5,7 +5,8 @@ use crate::files::Target;
 use crate::input::{self, shown, Progress};
 use crate::text::plain;
 use crate::{output, End};
-use dta::{ByteOrder, File, Refusal, Type};
+use dta::{ByteOrder, File, Refusal, Type, Variable};
+use independent::edition::Edition;
 use std::ffi::{OsStr, OsString};
 use std::os::unix::ffi::OsStrExt;
 use std::path::Path;
@@ -22,7 +23,7 @@ fn told(given: Vec<OsString>) -> Result<End, End> {
         .value("--edition")
         .and_then(|word| number(word.as_bytes()))
     else {
-        return Err(arguments.wrong("--edition needs 113, 114 or 117"));
+        return Err(arguments.wrong("--edition needs 113, 114, 115, 117 or 118"));
     };
     let order = match arguments.value("--order").map(OsStrExt::as_bytes) {
         Some(b"msf" | b"MSF") => ByteOrder::Msf,
@@ -69,34 +70,82 @@ fn not_written(to: &OsStr, reason: &str) -> End {
 }
 
 fn refused(file: &File<Vec<u8>>, from: &OsStr, edition: u64, refusal: Refusal) -> End {
-    let why = why(file, edition)
-        .map(|why| format!(" ({why})"))
-        .unwrap_or_default();
+    let why = match refusal.number() {
+        15 => format!(" ({})", why(file, edition)),
+        _ => String::new(),
+    };
     output::error(&format!("dta: {}: {refusal}{why}", shown(from)));
     input::refused(refusal)
 }
 
-/// The first variable that the edition can't hold, or that the edition is not offered.
-fn why(file: &File<Vec<u8>>, edition: u64) -> Option<String> {
-    if ![113, 114, 117].contains(&edition) {
-        return Some(format!("edition {edition} is not offered"));
+/// Why the edition is refused, and which are not.
+fn why(file: &File<Vec<u8>>, edition: u64) -> String {
+    let Some(to) = Edition::of(edition) else {
+        let offered = joined(&dta::EDITIONS, "and");
+        return format!("edition {edition} is not offered; {offered} are");
+    };
+    let unheld = unheld(file, to)
+        .unwrap_or_else(|| "the result would be longer than 2,147,483,647 bytes".to_string());
+    let holds =
+        |other: &u64| Edition::of(*other).is_some_and(|to| self::unheld(file, to).is_none());
+    let mut others = dta::EDITIONS.to_vec();
+    others.retain(|other| *other != edition && holds(other));
+    match &others[..] {
+        [] => unheld,
+        others => format!("{unheld}; --edition {} holds it", joined(others, "or")),
     }
-    if edition == 117 {
-        return None;
+}
+
+/// `113, 114 and 115`.
+fn joined(numbers: &[u64], last: &str) -> String {
+    let words: Vec<String> = numbers.iter().map(u64::to_string).collect();
+    match &words[..] {
+        [] => String::new(),
+        [one] => one.clone(),
+        [first @ .., end] => format!("{} {last} {end}", first.join(", ")),
     }
-    file.variables().find_map(|variable| {
-        let name = plain(variable.name);
-        match variable.of {
-            Type::StrL => return Some(format!("{name} is strL")),
-            Type::Text(width) if width > 244 => return Some(format!("{name} is str{width}")),
-            _ => {}
-        }
-        let long = edition == 113 && variable.format.len() > 11;
-        long.then(|| {
-            format!(
-                "the display format of {name} has {} bytes",
-                variable.format.len()
-            )
+}
+
+/// The first thing that the edition can't hold: of a variable, the dataset label, a label block's name.
+fn unheld(file: &File<Vec<u8>>, to: &Edition) -> Option<String> {
+    let of_variables = || {
+        file.variables()
+            .find_map(|variable| unheld_of(&variable, to))
+    };
+    let label = || too_long("the dataset label", file.label(), to.most_label, to);
+    let of_blocks = || {
+        file.label_sets().find_map(|set| {
+            let what = format!("the name of the label set {}", plain(set.name));
+            too_long(&what, set.name, to.name - 1, to)
         })
-    })
+    };
+    of_variables().or_else(label).or_else(of_blocks)
+}
+
+fn unheld_of(variable: &Variable, to: &Edition) -> Option<String> {
+    let (name, number) = (plain(variable.name), to.number);
+    let most = to.widest_text();
+    match variable.of {
+        Type::StrL if !to.tagged => return Some(format!("{name} is strL, which {number} has not")),
+        Type::Text(width) if u64::from(width) > most => {
+            let what =
+                format!("{name} is str{width}, and the widest text of {number} is str{most}");
+            return Some(what);
+        }
+        _ => {}
+    }
+    [
+        ("the name of variable", variable.name, to.name),
+        ("the display format of", variable.format, to.format),
+        ("the label-set name of", variable.set, to.name),
+        ("the variable label of", variable.label, to.variable_label),
+    ]
+    .into_iter()
+    .find_map(|(what, text, width)| too_long(&format!("{what} {name}"), text, width - 1, to))
+}
+
+/// A text of more bytes than there is room for.
+fn too_long(what: &str, text: &[u8], most: usize, to: &Edition) -> Option<String> {
+    let (length, number) = (text.len(), to.number);
+    (length > most).then(|| format!("{what} has {length} bytes, and {number} has room for {most}"))
 }

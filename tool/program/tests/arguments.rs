@@ -6,7 +6,7 @@ use std::ffi::{OsStr, OsString};
 use std::os::unix::ffi::OsStrExt;
 use std::process::{Command, Stdio};
 
-const WORDS: [&[u8]; 48] = [
+const WORDS: [&[u8]; 52] = [
     b"check",
     b"info",
     b"show",
@@ -41,7 +41,10 @@ const WORDS: [&[u8]; 48] = [
     b"-1",
     b"113",
     b"114",
+    b"115",
+    b"116",
     b"117",
+    b"118",
     b"msf",
     b"lsf",
     b"cell",
@@ -53,6 +56,7 @@ const WORDS: [&[u8]; 48] = [
     b"v1,v2",
     b"1,1",
     b"117,1,2,1,0,153,276,313,400,427,544,649,846,881,900,915,944,956",
+    b"118,2,6,8,0,203,326,371,1166,1201,1562,2375,4336,4371,4808,4823,5284,5296",
     b"a,,b",
     b"/nowhere/at/all",
 ];

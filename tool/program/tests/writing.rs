@@ -71,7 +71,7 @@ fn the_samples_are_what_it_makes_of_the_readings() {
         order: Order::Msf,
     };
     std::fs::write(&made, write(&readings::dataset(), target)).unwrap();
-    for edition in ["113", "114", "117"] {
+    for edition in ["113", "114", "115", "117", "118"] {
         let out = folder.join("out.dta");
         assert!(rewrite(edition, "lsf", &made, &out)
             .status()

@@ -290,7 +290,7 @@ returns-5 c =
     let s = c .before .before .before .before .width-sum .result in
     let S = c .before .before .before .before .width-sum .ensures in
     let W = edition-widths (l .release) (l .order) q Q there in
-    column-got e o f l i p P (omega (arith, W .v, W .o)) (omega (arith, b .0, b .1)) (s .value) (read-got s (widthsIn (e .tagged) o f K p) S (not-false (s .there) (c .before .before .if4 .left)))
+    column-got e o f l i p P (omega (arith, W .eight)) (omega (arith, b .0, b .1)) (s .value) (read-got s (widthsIn (e .tagged) o f K p) S (not-false (s .there) (c .before .before .if4 .left)))
     _ (c .before .field-at .ensures) (c .width-sum2 .result) (c .width-sum2 .ensures)
     ∙ sym (ap columnBy A)
 

@@ -1,62 +1,54 @@
-use Rattle.editions.proofs.StartLaws.{begins-113, begins-114, begins-117, begins-none, empty-none}
+use Rattle.editions.proofs.StartLaws.{same, begins-is, begins-tagged, empty-none}
+use Rattle.format.specs.Edition.{r113, r114, r115}
 use borrow.Author.Needs.{needs}
 use Rattle.editions.proofs.release.Statement.{statement}
 use Rattle.editions.proofs.release.Tie as tie
 use Rattle.editions.proofs.release.Reads as reads
 use Rattle.editions.proofs.release.Lts as lts
-use Rattle.text.proofs.tag_at.Reads as tag-at-reads
+use Rattle.editions.proofs.tagged_release.Reads as tagged-release-reads
 
--- src/lib.rt:58:9
+-- src/lib.rt:105:9
 returns : tie.Need-returns
 returns c =
     empty-none (c .before .before .args .f .now) (c .if1 .taken)
 
--- src/lib.rt:60:8
-shared-slice-read-if2 : tie.Need-shared-slice-read-if2
-shared-slice-read-if2 c = search needs
+-- src/lib.rt:107:11
+shared-slice-read-match : tie.Need-shared-slice-read-match
+shared-slice-read-match c = search needs
 
--- src/lib.rt:61:9
+-- src/lib.rt:111:14
+tagged-release-requires : tie.Need-tagged-release-requires
+tagged-release-requires c κs = search needs
+
+-- src/lib.rt:101:1
 returns-2 : tie.Need-returns-2
 returns-2 c =
-    begins-113 (c .before .before .before .before .args .f .now) (c .if2 .taken)
+    begins-is (c .before .before .before .before .args .f .now) r113 (same (c .before .before .before .before .args .f .now) 113 (c .match .keys1))
 
--- src/lib.rt:63:8
-shared-slice-read-if3 : tie.Need-shared-slice-read-if3
-shared-slice-read-if3 c = search needs
-
--- src/lib.rt:64:9
+-- src/lib.rt:101:1
 returns-3 : tie.Need-returns-3
 returns-3 c =
-    begins-114 (c .before .before .before .before .before .before .args .f .now) (c .if3 .taken)
+    begins-is (c .before .before .before .before .args .f .now) r114 (same (c .before .before .before .before .args .f .now) 114 (c .match .keys2))
 
--- src/lib.rt:66:32
-slice-aggregate-tag-at : tie.Need-slice-aggregate-tag-at
-slice-aggregate-tag-at c = search needs
-
--- src/lib.rt:66:9
-tag-at-requires : tie.Need-tag-at-requires
-tag-at-requires c κs = search needs
-
--- src/lib.rt:54:1
+-- src/lib.rt:101:1
 returns-4 : tie.Need-returns-4
 returns-4 c =
-    begins-117 (c .before .before .before .before .before .before .before .before .before .args .f .now) (c .before .before .before .before .before .if2 .left) (c .before .before .before .if3 .left) _ (c .before .tag-at .ensures) (c .if4 .taken)
+    begins-is (c .before .before .before .before .args .f .now) r115 (same (c .before .before .before .before .args .f .now) 115 (c .match .keys3))
 
--- src/lib.rt:54:1
+-- src/lib.rt:101:1
 returns-5 : tie.Need-returns-5
 returns-5 c =
-    begins-none (c .before .before .before .before .before .before .before .before .before .args .f .now) (c .before .before .before .before .before .if2 .left) (c .before .before .before .if3 .left) _ (c .before .tag-at .ensures) (c .if4 .left)
+    let r = c .before .match .rest in
+    begins-tagged (c .before .before .before .before .before .args .f .now) _ (c .tagged-release .ensures) (r .0 .0 .1) (r .0 .1) (r .1)
 
 pub release-spec : {M : Type 1} → statement M
 release-spec =
     tie.close
     (tie.spec
     returns
-    shared-slice-read-if2
+    shared-slice-read-match
+    tagged-release-requires
     returns-2
-    shared-slice-read-if3
     returns-3
-    slice-aggregate-tag-at
-    tag-at-requires
     returns-4
     returns-5)

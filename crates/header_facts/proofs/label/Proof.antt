@@ -46,7 +46,7 @@ add-counted-part c =
     let E = c .before .before .before .edition-in .ensures in
     let h = not-false (r .there) (c .before .if1 .left) in
     let w = edition-widths (l .release) (l .order) r E h in
-    omega (arith, w .rows)
+    omega (arith, w .n-most)
 
 -- src/lib.rt:205:9
 counted-part-requires : tie.Need-counted-part-requires
@@ -58,7 +58,7 @@ counted-part-requires c κs =
     let E = c .before .before .before .edition-in .ensures in
     let h = not-false (r .there) (c .before .if1 .left) in
     let w = edition-widths (l .release) (l .order) r E h in
-    omega (arith, w .counted)
+    omega (arith, w .length-most)
 
 -- src/lib.rt:205:9
 returns-2 : tie.Need-returns-2
@@ -82,7 +82,7 @@ add-text-field c =
     let E = c .before .before .before .edition-in .ensures in
     let h = not-false (r .there) (c .before .if1 .left) in
     let w = edition-widths (l .release) (l .order) r E h in
-    omega (arith, w .rows)
+    omega (arith, w .n-most)
 
 -- src/lib.rt:207:35
 add-text-field-2 : tie.Need-add-text-field-2
@@ -94,7 +94,7 @@ add-text-field-2 c =
     let E = c .before .before .before .before .edition-in .ensures in
     let h = not-false (r .there) (c .before .before .if1 .left) in
     let w = edition-widths (l .release) (l .order) r E h in
-    omega (arith, w .label)
+    omega (arith, w .label-most)
 
 -- src/lib.rt:207:5
 text-field-requires : tie.Need-text-field-requires

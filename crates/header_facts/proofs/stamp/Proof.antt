@@ -46,7 +46,7 @@ add-new-stamp c =
     let E = c .before .before .before .edition-in .ensures in
     let h = not-false (r .there) (c .before .if1 .left) in
     let w = edition-widths (l .release) (l .order) r E h in
-    omega (arith, w .rows)
+    omega (arith, w .n-most)
 
 -- src/lib.rt:236:9
 new-stamp-requires : tie.Need-new-stamp-requires
@@ -58,7 +58,7 @@ new-stamp-requires c κs =
     let E = c .before .before .before .edition-in .ensures in
     let h = not-false (r .there) (c .before .if1 .left) in
     let w = edition-widths (l .release) (l .order) r E h in
-    omega (arith, w .counted)
+    omega (arith, w .length-most)
 
 -- src/lib.rt:236:9
 returns-2 : tie.Need-returns-2
@@ -82,7 +82,7 @@ add-text-field c =
     let E = c .before .before .before .edition-in .ensures in
     let h = not-false (r .there) (c .before .if1 .left) in
     let w = edition-widths (l .release) (l .order) r E h in
-    omega (arith, w .rows)
+    omega (arith, w .n-most)
 
 -- src/lib.rt:238:29
 add-text-field-2 : tie.Need-add-text-field-2
@@ -94,7 +94,7 @@ add-text-field-2 c =
     let E = c .before .before .before .edition-in .ensures in
     let h = not-false (r .there) (c .before .if1 .left) in
     let w = edition-widths (l .release) (l .order) r E h in
-    omega (arith, w .label)
+    omega (arith, w .label-most)
 
 -- src/lib.rt:238:5
 text-field-requires : tie.Need-text-field-requires

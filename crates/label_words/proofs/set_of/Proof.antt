@@ -40,7 +40,7 @@ set-in-requires : tie.Need-set-in-requires
 set-in-requires c κs =
     let a = c .before .before .before .before .before .before .args in
     let q = c .before .before .edition-in in
-    omega (arith, edition-widths (a .l .edition) (a .l .order) (q .result) (q .ensures) (not-false (q .result .there) (c .if2 .left)) .names)
+    omega (arith, edition-widths (a .l .edition) (a .l .order) (q .result) (q .ensures) (not-false (q .result .there) (c .if2 .left)) .name-most)
 
 returns-3 : tie.Need-returns-3
 returns-3 c =

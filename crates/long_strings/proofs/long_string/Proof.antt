@@ -63,7 +63,7 @@ long-by-requires c κs =
     let z = c .if1 .left in
     let s = after-said f l (a .i) (a .j) q Q (askLong (a .i) (a .j)) k refl (λ e o. refl) R z in
     let W = edition-widths (l .release) (l .order) q Q (s .0) in
-    omega (arith, W .records)
+    omega (arith, W .record-most)
 
 -- src/lib.rt:286:1
 returns-2 : tie.Need-returns-2

@@ -26,11 +26,20 @@ ordered-requires-2 c κs = search needs
 put-4-requires : tie.Need-put-4-requires
 put-4-requires c κs = search needs
 
-swap-8-requires : tie.Need-swap-8-requires
-swap-8-requires c κs = search needs
+swap-6-requires : tie.Need-swap-6-requires
+swap-6-requires c κs = search needs
 
 ordered-requires-3 : tie.Need-ordered-requires-3
 ordered-requires-3 c κs = search needs
+
+put-6-requires : tie.Need-put-6-requires
+put-6-requires c κs = search needs
+
+swap-8-requires : tie.Need-swap-8-requires
+swap-8-requires c κs = search needs
+
+ordered-requires-4 : tie.Need-ordered-requires-4
+ordered-requires-4 c κs = search needs
 
 put-8-requires : tie.Need-put-8-requires
 put-8-requires c κs = search needs
@@ -77,14 +86,25 @@ returns-4 c =
     let m = c .before .before .before .before .before .before in
     let a = m .before .before .args in
     rw (m .match .keys4)
-    (ordered-written (a .msf) 8 (a .n) _ _ (a .out .now) _ (omega arith) (c .before .before .before .before .swap-8 .ensures)
-    (c .before .before .before .ordered3 .ensures) (c .before .before .put-8 .ensures))
+    (ordered-written (a .msf) 6 (a .n) _ _ (a .out .now) _ (omega arith) (c .before .before .before .before .swap-6 .ensures)
+    (c .before .before .before .ordered3 .ensures) (c .before .before .put-6 .ensures))
 
 same-length-5 : tie.Need-same-length-5
 same-length-5 c = search needs
 
 returns-5 : tie.Need-returns-5
-returns-5 c = c .before .before .put-any .ensures
+returns-5 c =
+    let m = c .before .before .before .before .before .before in
+    let a = m .before .before .args in
+    rw (m .match .keys5)
+    (ordered-written (a .msf) 8 (a .n) _ _ (a .out .now) _ (omega arith) (c .before .before .before .before .swap-8 .ensures)
+    (c .before .before .before .ordered4 .ensures) (c .before .before .put-8 .ensures))
+
+same-length-6 : tie.Need-same-length-6
+same-length-6 c = search needs
+
+returns-6 : tie.Need-returns-6
+returns-6 c = c .before .before .put-any .ensures
 
 pub put-number-spec : {M : Type 1} → statement M
 put-number-spec =
@@ -97,8 +117,11 @@ put-number-spec =
     swap-4-requires
     ordered-requires-2
     put-4-requires
-    swap-8-requires
+    swap-6-requires
     ordered-requires-3
+    put-6-requires
+    swap-8-requires
+    ordered-requires-4
     put-8-requires
     put-any-requires
     same-length
@@ -110,4 +133,6 @@ put-number-spec =
     same-length-4
     returns-4
     same-length-5
-    returns-5)
+    returns-5
+    same-length-6
+    returns-6)

@@ -11,7 +11,7 @@ use mathlib.Core.Path.{_≡_, refl, sym, ap, _∙_}
 use native.Mathlib.Omega.{arith}
 use lib.ListN.{length}
 use Rattle.format.specs.Slot.{Bytes}
-use Rattle.sources.proofs.PartReads.{widths-of}
+use Rattle.editions.proofs.WidthLaws.{code-widths}
 use Rattle.plans.proofs.PlanLaws.{sums-are}
 use Rattle.plans.proofs.SizeLaws.{code-small}
 
@@ -22,7 +22,7 @@ list-bytes-requires : tie.Need-list-bytes-requires
 list-bytes-requires c κs = (omega (arith, c .before .pre .1), omega (arith, c .code-width .ensures, code-small (c .before .args .to .tagged)))
 
 list-bytes-requires-2 : tie.Need-list-bytes-requires-2
-list-bytes-requires-2 c κs = (omega (arith, c .before .before .pre .1), omega (arith, widths-of (c .before .before .args .to) (c .before .before .pre .0 .release) (c .before .before .pre .0 .is) .name-33))
+list-bytes-requires-2 c κs = (omega (arith, c .before .before .pre .1), omega (arith, code-widths (c .before .before .args .to) (c .before .before .pre .0 .release) (c .before .before .pre .0 .is) .name-most))
 
 add-list-bytes : tie.Need-add-list-bytes
 add-list-bytes c = search needs
@@ -31,10 +31,10 @@ list-bytes-requires-3 : tie.Need-list-bytes-requires-3
 list-bytes-requires-3 c κs = search needs
 
 list-bytes-requires-4 : tie.Need-list-bytes-requires-4
-list-bytes-requires-4 c κs = (omega (arith, c .before .before .before .before .pre .1), omega (arith, widths-of (c .before .before .before .before .args .to) (c .before .before .before .before .pre .0 .release) (c .before .before .before .before .pre .0 .is) .format-49))
+list-bytes-requires-4 c κs = (omega (arith, c .before .before .before .before .pre .1), omega (arith, code-widths (c .before .before .before .before .args .to) (c .before .before .before .before .pre .0 .release) (c .before .before .before .before .pre .0 .is) .format-most))
 
 list-bytes-requires-5 : tie.Need-list-bytes-requires-5
-list-bytes-requires-5 c κs = (omega (arith, c .before .before .before .before .before .pre .1), omega (arith, widths-of (c .before .before .before .before .before .args .to) (c .before .before .before .before .before .pre .0 .release) (c .before .before .before .before .before .pre .0 .is) .label-81))
+list-bytes-requires-5 c κs = (omega (arith, c .before .before .before .before .before .pre .1), omega (arith, code-widths (c .before .before .before .before .before .args .to) (c .before .before .before .before .before .pre .0 .release) (c .before .before .before .before .before .pre .0 .is) .var-label-most))
 
 next-requires : tie.Need-next-requires
 next-requires c κs = search needs

@@ -12,8 +12,9 @@ use native.Mathlib.Omega.{arith}
 use lib.ListN.{length}
 use Rattle.format.specs.Slot.{Bytes}
 use Rattle.format.specs.Dta.{releaseOf}
-use Rattle.sources.proofs.PartReads.{widths-of, typed-of}
-use Rattle.plans.proofs.SizeLaws.{file-short, label-80, stamp-17, head-size, head-small, rows-size, rows-small, longs-room, longs-widths, longs-size, longs-small, blocks-room, blocks-widths, blocks-size, blocks-small}
+use Rattle.editions.proofs.WidthLaws.{code-widths}
+use Rattle.sources.proofs.PartReads.{typed-of}
+use Rattle.plans.proofs.SizeLaws.{file-short, label-short, stamp-17, head-size, head-small, rows-size, rows-small, longs-room, longs-widths, longs-size, longs-small, blocks-room, blocks-widths, blocks-size, blocks-small}
 
 header-size-requires : tie.Need-header-size-requires
 header-size-requires c κs =
@@ -28,8 +29,8 @@ header-size-requires c κs =
     let S = g .pre .1 in
     let to = a .to in
     let K = g .pre .2 in
-    let X = widths-of to (K .release) (K .is) in
-    (omega (arith, X .n-4), omega (arith, X .length-1), omega (arith, X .label-80), omega (arith, label-80 f u e m op s S to K), stamp-17 f u e m op s S to K)
+    let X = code-widths to (K .release) (K .is) in
+    (omega (arith, X .n-most), omega (arith, X .length-most), omega (arith, X .label-most), omega (arith, label-short f u e m op s S to K), stamp-17 f u e m op s S to K)
 
 row-width-requires : tie.Need-row-width-requires
 row-width-requires c κs =

@@ -1,16 +1,15 @@
 use borrow.Author.Needs.{needs}
 use mathlib.Core.Path.{sym, ap, _∙_}
-use native.Mathlib.Omega.{arith}
 use borrow.Author.Tests.{not-true, not-false}
 use Rattle.reading.specs.Reads.{openedBy}
-use Rattle.reading.proofs.ReadLaws.{edition-shut, order-shut, opened-is, release-small}
+use Rattle.reading.proofs.ReadLaws.{edition-shut, order-shut, opened-is}
 use Rattle.reading.proofs.edition_in.Statement.{statement}
 use Rattle.reading.proofs.edition_in.Tie as tie
 use Rattle.reading.proofs.edition_in.Reads as reads
 use Rattle.reading.proofs.edition_in.Lts as lts
 use Rattle.editions.proofs.numbers_of.Reads as numbers-of-reads
 use Rattle.reading.proofs.is_order.Reads as is-order-reads
-use Rattle.reading.proofs.is_release.Reads as is-release-reads
+use Rattle.editions.proofs.is_release.Reads as is-release-reads
 use Rattle.reading.proofs.not_opened.Reads as not-opened-reads
 
 -- src/lib.rt:170:9
@@ -43,13 +42,6 @@ returns-2 c =
     let o = c .before .before .is-order in
     c .not-opened2 .ensures ∙ ap openedBy (sym (order-shut (a .number) (a .order) (sym (o .ensures) ∙ not-true (o .result) (c .before .if2 .taken))))
 
--- src/lib.rt:179:33
-cast-numbers-of : tie.Need-cast-numbers-of
-cast-numbers-of c =
-    let a = c .before .before .before .before .args in
-    let r = c .before .before .before .is-release in
-    omega (arith, release-small (a .number) (sym (r .ensures) ∙ not-false (r .result) (c .before .before .if1 .left)))
-
 -- src/lib.rt:179:12
 numbers-of-requires : tie.Need-numbers-of-requires
 numbers-of-requires c κs = search needs
@@ -72,6 +64,5 @@ edition-in-spec =
     is-order-requires
     not-opened-requires-2
     returns-2
-    cast-numbers-of
     numbers-of-requires
     returns-3)

@@ -6,22 +6,22 @@ use mathlib.Core.Path.{_≡_, sym, _∙_}
 use native.Mathlib.Omega.{arith}
 use lib.Dec.{eqb}
 use borrow.Author.Tests.{not-true, not-false}
-use Rattle.rewriting.proofs.RewriteLaws.{refused-file, refused-15, accepted, own, opened, target, not-offered, Begun, Ready, known-target, ready-15, ready-14, ready-holding, ready-places, ready-room, ready-done}
+use Rattle.rewriting.proofs.RewriteLaws.{refused-file, refused-15, accepted, own, opened, not-offered, Begun, Ready, known-target, ready-15, ready-14, ready-holding, ready-places, ready-room, ready-done}
 
 -- the file and the target are known
-begun : (c : tie.After-struct-known2) → Begun (c .before .before .before .before .before .before .before .before .before .before .before .before .before .args .f .now) (c .before .before .before .before .before .before .before .before .before .before .before .before .before .args .edition) (c .before .before .before .before .before .before .before .before .before .before .before .before .before .args .order) (c .before .before .before .numbers-of .result) (c .before .numbers-of2 .result) (eqb (c .before .before .before .before .before .before .before .before .before .before .check .result .layout .order) 1)
+begun : (c : tie.After-struct-known2) → Begun (c .before .before .before .before .before .before .before .before .before .before .before .args .f .now) (c .before .before .before .before .before .before .before .before .before .before .before .args .edition) (c .before .before .before .before .before .before .before .before .before .before .before .args .order) (c .before .before .numbers-of .result) (c .before .numbers-of2 .result) (eqb (c .before .before .before .before .before .before .before .before .check .result .layout .order) 1)
 begun c =
-    let f = c .before .before .before .before .before .before .before .before .before .before .before .before .before .args .f .now in
-    let k = c .before .before .before .before .before .before .before .before .before .before .check .result in
+    let f = c .before .before .before .before .before .before .before .before .before .before .before .args .f .now in
+    let k = c .before .before .before .before .before .before .before .before .check .result in
     record {
-      bytes = λ i. omega (arith, c .before .before .before .before .before .before .before .before .before .before .before .before .shared-slice-known .given i);
-      opens = opened f k (c .before .before .before .before .before .before .before .before .before .before .check .ensures) (c .before .before .before .before .before .before .before .before .if1 .left) (c .before .before .before .numbers-of .result) (c .before .before .before .before .release-of .result) (c .before .before .before .numbers-of .ensures) (c .before .before .before .before .release-of .ensures);
-      offers = sym (c .before .before .before .before .before .before .before .is-offered .ensures) ∙ not-false _ (c .before .before .before .before .before .before .if2 .left);
-      aims = target (c .before .before .before .before .before .before .before .before .before .before .before .before .before .args .edition) (c .before .numbers-of2 .result) (c .before .before .release-of2 .result) (c .before .numbers-of2 .ensures) (c .before .before .release-of2 .ensures);
+      bytes = λ i. omega (arith, c .before .before .before .before .before .before .before .before .before .before .shared-slice-known .given i);
+      opens = opened f k (c .before .before .before .before .before .before .before .before .check .ensures) (c .before .before .before .before .before .before .if1 .left) (c .before .before .numbers-of .result) (c .before .before .numbers-of .ensures);
+      offers = sym (c .before .before .before .before .before .is-offered .ensures) ∙ not-false _ (c .before .before .before .before .if2 .left);
+      aims = c .before .numbers-of2 .ensures;
     }
 
 -- .. and whether the target holds the dataset
-ready : (c : tie.After-is-held) → Ready (c .before .before .before .before .before .before .before .before .before .before .before .before .before .before .before .before .before .args .f .now) (c .before .before .before .before .before .before .before .before .before .before .before .before .before .before .before .before .before .args .edition) (c .before .before .before .before .before .before .before .before .before .before .before .before .before .before .before .before .before .args .order) (c .before .before .before .before .before .before .before .numbers-of .result) (c .before .before .before .before .before .numbers-of2 .result) (eqb (c .before .before .before .before .before .before .before .before .before .before .before .before .before .before .check .result .layout .order) 1) (c .before .before .plan-of .result) (c .is-held .result)
+ready : (c : tie.After-is-held) → Ready (c .before .before .before .before .before .before .before .before .before .before .before .before .before .before .before .args .f .now) (c .before .before .before .before .before .before .before .before .before .before .before .before .before .before .before .args .edition) (c .before .before .before .before .before .before .before .before .before .before .before .before .before .before .before .args .order) (c .before .before .before .before .before .before .numbers-of .result) (c .before .before .before .before .before .numbers-of2 .result) (eqb (c .before .before .before .before .before .before .before .before .before .before .before .before .check .result .layout .order) 1) (c .before .before .plan-of .result) (c .is-held .result)
 ready c = record { begun = begun (c .before .before .before .before); plan = c .before .before .plan-of .ensures; tests = c .is-held .ensures }
 
 check-requires : tie.Need-check-requires
@@ -45,20 +45,14 @@ returns-2 c =
     refused-15 f (c .before .before .before .before .before .before .before .before .args .edition) (c .before .before .before .before .before .before .before .before .args .order) (c .before .before .before .before .before .before .before .before .args .out .now) (accepted f (c .before .before .before .before .before .check .result) (c .before .before .before .before .before .check .ensures) (c .before .before .before .if1 .left))
     (not-offered f (c .before .before .before .before .before .before .before .before .args .edition) (c .before .before .before .before .before .before .before .before .args .order) (sym (c .before .before .is-offered .ensures) ∙ not-true _ (c .before .if2 .taken))) (c .refused2 .result) (c .refused2 .ensures)
 
-release-of-requires : tie.Need-release-of-requires
-release-of-requires c κs = search needs
-
 numbers-of-requires : tie.Need-numbers-of-requires
 numbers-of-requires c κs = search needs
-
-release-of-requires-2 : tie.Need-release-of-requires-2
-release-of-requires-2 c κs = search needs
 
 numbers-of-requires-2 : tie.Need-numbers-of-requires-2
 numbers-of-requires-2 c κs = search needs
 
 source-of-requires : tie.Need-source-of-requires
-source-of-requires c κs = (own (c .before .before .before .before .before .before .before .before .before .before .before .before .before .args .f .now) (c .before .before .before .before .before .before .before .before .before .before .check .result) (c .before .before .before .before .before .before .before .before .before .before .check .ensures) (c .before .before .before .before .before .before .before .before .if1 .left), begun c .opens)
+source-of-requires c κs = (own (c .before .before .before .before .before .before .before .before .before .before .before .args .f .now) (c .before .before .before .before .before .before .before .before .check .result) (c .before .before .before .before .before .before .before .before .check .ensures) (c .before .before .before .before .before .before .if1 .left), begun c .opens)
 
 plan-of-requires : tie.Need-plan-of-requires
 plan-of-requires c κs = (begun (c .before) .opens, c .source-of .ensures, known-target (begun (c .before)))
@@ -73,7 +67,7 @@ refused-requires-3 : tie.Need-refused-requires-3
 refused-requires-3 c κs = search needs
 
 returns-3 : tie.Need-returns-3
-returns-3 c = ready-15 (ready (c .before .before)) (c .before .before .before .before .before .before .before .before .before .before .before .before .before .before .before .before .before .before .before .args .out .now) (not-true _ (c .before .if3 .taken)) (c .refused3 .result) (c .refused3 .ensures)
+returns-3 c = ready-15 (ready (c .before .before)) (c .before .before .before .before .before .before .before .before .before .before .before .before .before .before .before .before .before .args .out .now) (not-true _ (c .before .if3 .taken)) (c .refused3 .result) (c .refused3 .ensures)
 
 array-read-if4 : tie.Need-array-read-if4
 array-read-if4 c = search needs
@@ -82,22 +76,22 @@ refused-requires-4 : tie.Need-refused-requires-4
 refused-requires-4 c κs = search needs
 
 returns-4 : tie.Need-returns-4
-returns-4 c = ready-14 (ready (c .before .before .before)) (c .before .before .before .before .before .before .before .before .before .before .before .before .before .before .before .before .before .before .before .before .args .out .now) (not-false _ (c .before .before .if3 .left)) (c .before .if4 .taken) (c .refused4 .result) (c .refused4 .ensures)
+returns-4 c = ready-14 (ready (c .before .before .before)) (c .before .before .before .before .before .before .before .before .before .before .before .before .before .before .before .before .before .before .args .out .now) (not-false _ (c .before .before .if3 .left)) (c .before .if4 .taken) (c .refused4 .result) (c .refused4 .ensures)
 
 put-all-requires : tie.Need-put-all-requires
 put-all-requires c κs =
     let R = ready (c .before .before .before) in
-    let d = c .before .before .before .before .before .before .before .before .before .before .before .before .before .before .before .before .before .before .before .before .args .out .now in
+    let d = c .before .before .before .before .before .before .before .before .before .before .before .before .before .before .before .before .before .before .args .out .now in
     (R .begun .opens, c .before .before .before .before .before .before .source-of .ensures, ready-holding R d (not-false _ (c .before .before .if3 .left)), ready-places R d, ready-room R d (omega (arith, c .before .if4 .left)))
 
-array-read-t19 : tie.Need-array-read-t19
-array-read-t19 c = search needs
+array-read-t18 : tie.Need-array-read-t18
+array-read-t18 c = search needs
 
 same-length : tie.Need-same-length
 same-length c = search needs
 
 returns-5 : tie.Need-returns-5
-returns-5 c = ready-done (ready (c .before .before .before .before .before .before)) (c .before .before .before .before .before .before .before .before .before .before .before .before .before .before .before .before .before .before .before .before .before .before .before .args .out .now) (not-false _ (c .before .before .before .before .before .if3 .left)) (omega (arith, c .before .before .before .before .if4 .left)) (c .before .before .put-all .last .0) (c .before .before .put-all .result) (c .before .before .put-all .ensures)
+returns-5 c = ready-done (ready (c .before .before .before .before .before .before)) (c .before .before .before .before .before .before .before .before .before .before .before .before .before .before .before .before .before .before .before .before .before .args .out .now) (not-false _ (c .before .before .before .before .before .if3 .left)) (omega (arith, c .before .before .before .before .if4 .left)) (c .before .before .put-all .last .0) (c .before .before .put-all .result) (c .before .before .put-all .ensures)
 
 pub rewrite-spec : {M : Type 1} → statement M
 rewrite-spec =
@@ -109,9 +103,7 @@ rewrite-spec =
     is-offered-requires
     refused-requires-2
     returns-2
-    release-of-requires
     numbers-of-requires
-    release-of-requires-2
     numbers-of-requires-2
     source-of-requires
     plan-of-requires
@@ -123,6 +115,6 @@ rewrite-spec =
     refused-requires-4
     returns-4
     put-all-requires
-    array-read-t19
+    array-read-t18
     same-length
     returns-5)

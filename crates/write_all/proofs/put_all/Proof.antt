@@ -19,7 +19,7 @@ use Rattle.format.proofs.FileLaws.{number-small}
 use Rattle.editions.specs.Editions.{numbersOf}
 use Rattle.sources.specs.Parts.{headTo, mapTo, extrasTo, rowsTo, longsTo, blocksTo}
 use Rattle.sources.proofs.SourceLaws.{stamp-small}
-use Rattle.sources.proofs.PartReads.{widths-of, held-parts}
+use Rattle.sources.proofs.PartReads.{held-parts}
 use Rattle.write_parts.proofs.EnclosedLaws.{three-room, content-room, enclosed-put, enclosed-long, last-room, two-put}
 use Rattle.write_lists.specs.Lists.{firstLists, laterLists}
 use Rattle.write_lists.proofs.ListLaws.{puts-as, room-as}

@@ -19,7 +19,8 @@ use Rattle.format.proofs.FileLaws.{number-small}
 use Rattle.editions.specs.Editions.{numbersOf}
 use Rattle.sources.specs.Parts.{headTo, mapTo, extrasTo, rowsTo, longsTo, blocksTo}
 use Rattle.sources.proofs.SourceLaws.{stamp-small}
-use Rattle.sources.proofs.PartReads.{widths-of, held-parts}
+use Rattle.editions.proofs.WidthLaws.{code-widths}
+use Rattle.sources.proofs.PartReads.{held-parts}
 use Rattle.write_parts.proofs.EnclosedLaws.{three-room, content-room, enclosed-put, enclosed-long, last-room, two-put}
 use Rattle.write_lists.specs.Lists.{firstLists, laterLists}
 use Rattle.write_lists.proofs.ListLaws.{puts-as, room-as}
@@ -47,7 +48,7 @@ put-header-requires c κs =
     let R = firstLists E (orderBy z) d in
     let h = three-room L G R (length (a .out .now)) room in
     let k : length L ≤ length (a .out .now) = omega (arith, h) in
-    (let W = widths-of to (H .known .release) (H .known .is) in (S .label .inside, S .stamp .inside, omega (arith, S .label .long, held-parts f to (orderBy z) H .label), omega (arith, S .stamp .long, stamp-small f u (op .accepted)), omega (arith, W .n-4), omega (arith, W .length-1), omega (arith, W .label-80), head-room f s S E (orderBy z) (let b : to .number ≤ 255 = omega (arith, ap (λ (x : Edition). x .number) (H .known .is), number-small (H .known .release)) in b) _ k))
+    (let W = code-widths to (H .known .release) (H .known .is) in (S .label .inside, S .stamp .inside, omega (arith, S .label .long, held-parts f to (orderBy z) H .label), omega (arith, S .stamp .long, stamp-small f u (op .accepted)), omega (arith, W .n-most), omega (arith, W .length-most), omega (arith, W .label-most), head-room f s S E (orderBy z) (let b : to .number ≤ 255 = omega (arith, ap (λ (x : Edition). x .number) (H .known .is), number-small (H .known .release)) in b) _ k))
 
 sub-put-map : tie.Need-sub-put-map
 sub-put-map c =

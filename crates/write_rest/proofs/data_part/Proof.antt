@@ -17,7 +17,6 @@ use Rattle.format.specs.Edition.{opening, closing, n-strls, n-value-labels, n-s
 use Rattle.format.specs.Dta.{datasetOf, releaseOf}
 use Rattle.editions.specs.Editions.{numbersOf}
 use Rattle.sources.specs.Parts.{longsTo, blocksTo, rowsTo}
-use Rattle.sources.proofs.PartReads.{widths-of}
 use Rattle.write_parts.proofs.EnclosedLaws.{three-room, content-room, enclosed-put, enclosed-long, last-room}
 use Rattle.write_lists.proofs.ListLaws.{puts-as, room-as}
 use Rattle.write_rest.proofs.RestLaws.{rowsSource, rowsIn, rows-eq, rows-sourced, to-eight, rows-long, longsIn, longs-eq, longs-room, longs-put, blocksIn, blocks-eq, blocks-room, blocks-put}

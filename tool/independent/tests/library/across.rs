@@ -3,6 +3,7 @@
 
 use super::{coded, files, setting, BEFORE};
 use dta::raw;
+use independent::edition::{Edition, NUMBERS};
 use independent::generate::Order;
 use independent::questions::{ask, numbers, Answer, Kind, Numbers, Question};
 use independent::random::Random;
@@ -88,7 +89,7 @@ fn all_asked() -> Vec<Asked> {
 }
 
 /// Names of label sets, some of which begin others; the first is none.
-const NAMES: [&str; 8] = [
+const NAMES: [&str; 10] = [
     "",
     "a",
     "ab",
@@ -97,16 +98,20 @@ const NAMES: [&str; 8] = [
     "B",
     "\u{e9}",
     "a_name_of_thirty_two_bytes_is_ok",
+    "a_name_of_thirty_three_bytes_is_ok",
+    "a_name_of_128_bytes_is_the_longest_that_edition_118_holds_which_is_why_this_one_goes_on_and_on_until_it_has_as_many_as_that_____",
 ];
 
 /// A file with several label sets: some for more than one variable, some with names that come again, some for none; and variables without a set.
 fn several(random: &mut Random) -> Vec<u8> {
-    let edition = random.pick(&[113, 114, 117]);
+    let edition = random.pick(&NUMBERS);
     let order = random.pick(&[Order::Msf, Order::Lsf]);
     let mut sketch = Sketch::new(edition, order);
+    // The last two are too long for the others.
+    let names = if edition == 118 { &NAMES } else { &NAMES[..8] };
     for _ in 0..random.between(1, 9) {
         let kind = random.pick(&[Kind::Byte, Kind::Int, Kind::Long]);
-        let set = random.pick(&NAMES);
+        let set = random.pick(names);
         sketch.variables.push(Variable { kind, set, ..X });
     }
     sketch.n = random.below(6) as u64;
@@ -119,7 +124,7 @@ fn several(random: &mut Random) -> Vec<u8> {
     for _ in 0..random.below(9) {
         let entries = [(0, "none"), (1, ""), (2, "some"), (3, "many"), (4, "all")];
         let few = random.below(6);
-        let name = random.pick(&NAMES[1..]);
+        let name = random.pick(&names[1..]);
         sketch.blocks.push((name, table(order, &entries[..few])));
     }
     sketch.file()
@@ -128,9 +133,10 @@ fn several(random: &mut Random) -> Vec<u8> {
 /// Where the label blocks of an accepted file begin, after their tags.
 fn heads(file: &[u8], own: &Numbers) -> Vec<usize> {
     let order = Order::from_code(own[1] as u8);
-    let [start, open, close, end] = match own[0] {
-        117 => [14, 5, 6, 15],
-        _ => [0; 4],
+    let edition = Edition::of(own[0]).expect("an edition that is read");
+    let [start, open, close, end] = match edition.tagged {
+        true => [14, 5, 6, 15],
+        false => [0; 4],
     };
     let mut heads = Vec::new();
     let mut at = own[15] as usize + start;
@@ -138,7 +144,8 @@ fn heads(file: &[u8], own: &Numbers) -> Vec<usize> {
     while at < end {
         let head = at + open;
         heads.push(head);
-        at = head + 40 + order.number(&file[head..head + 4]) as usize + close;
+        let table = head + edition.block_head();
+        at = table + order.number(&file[head..head + 4]) as usize + close;
     }
     heads
 }
@@ -150,16 +157,18 @@ fn damaged(random: &mut Random, file: &[u8], own: &Numbers) -> Option<Asked> {
         return None;
     }
     let head = random.pick(&heads);
+    let edition = Edition::of(own[0]).expect("an edition that is read");
+    let table = head + edition.block_head();
     let (mut file, mut layout) = (file.to_vec(), *own);
     let least = if own[1] == 1 { 3 } else { 0 };
     let by = random.pick(&[1, 8, 255, 248]);
     let mut change = |place: usize| file[place] = file[place].wrapping_add(by);
     match random.below(5) {
         0 => change(head + least),
-        1 => change(head + 40 + least),
-        2 => change(head + 44 + least),
-        3 => layout[16] = (head + random.below(60)) as u64,
-        _ => file.truncate(head + random.below(60)),
+        1 => change(table + least),
+        2 => change(table + 4 + least),
+        3 => layout[16] = random.between(head, table + 20) as u64,
+        _ => file.truncate(random.between(head, table + 20)),
     }
     let layouts = vec![layout];
     Some(Asked { file, layouts })
@@ -377,7 +386,8 @@ fn neighbour(call: Call) -> u8 {
         let mut numbers = [0; 4];
         raw::ask(file, layout, 9, i, 0, &mut numbers);
         let start = numbers[1] as usize;
-        (numbers[0] == 4 && start + 33 <= file.len()).then_some(start..start + 33)
+        let width = Edition::of(layout[0]).map_or(0, |edition| edition.name);
+        (numbers[0] == 4 && start + width <= file.len()).then_some(start..start + width)
     };
     changed(call, |at, j, answer| {
         let Some(before) = at.checked_sub(1) else {

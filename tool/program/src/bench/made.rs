@@ -14,6 +14,13 @@ pub const ORDINARY: [(&str, OfSize); 4] = [
     ("labels", labels),
 ];
 
+/// Files that are rewritten in 118, too.
+pub const IN_BOTH: [(&str, OfSize); 3] = [
+    ("numbers", numbers),
+    ("texts", texts),
+    ("long strings", long_strings),
+];
+
 /// Files that are told beside them: short long strings, variables with label sets, and other mixes of numbers, as what turning their bytes costs depends on how many
 /// of one width stand beside each other.
 pub const BESIDE: [(&str, OfSize); 5] = [
