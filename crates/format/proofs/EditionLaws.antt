@@ -1,12 +1,11 @@
 -- The editions that are read: each is in the list, is found there by its number, and keeps to bounds.
-use mathlib.Core.Path.{_≡_, refl, sym, ap, _∙_, subst}
-use Prim.Native.Nat.{ℕ, _+_, _^_, _≤_, _<_}
-use native.Mathlib.Omega.{arith}
+use mathlib.Core.Path.{_≡_, refl, sym, ap, _∙_}
+use Prim.Native.Nat.{ℕ, _+_, _≤_, _<_}
 use mathlib.Core.List.{List, [], _∷_}
 use mathlib.Core.Logic.{_⊎_, inl, inr}
 use mathlib.Core.Bool.{Bool, true, false, cond, _&&_, _||_, true≢false}
 use lib.Dec.{eqb, leb, ltb}
-use borrow.Author.Tests.{eqb-true, leb-true, ltb-true, eq-eqb}
+use borrow.Author.Tests.{eqb-true, leb-true, ltb-true}
 use Rattle.format.specs.Edition.{Edition, Release, r113, r114, r115, r117, r118, edition, releases, some, first, isRelease, releaseBy}
 use Rattle.format.proofs.Good.{and-left, and-right}
 
@@ -91,25 +90,17 @@ pub record Widths (e : Edition) : Type 0 where
   pub number-some : 0 < e .number
   pub number-most : e .number < 256
   -- bytes of N
-  pub n-least : 4 ≤ e .nWidth
   pub n-most : e .nWidth ≤ 8
   -- dataset label
-  pub label-least : 80 ≤ e .labelMax
   pub label-most : e .labelMax ≤ 320
-  pub length-least : 1 ≤ e .labelLength
   pub length-most : e .labelLength ≤ 2
   -- fields of text
   pub name-least : 33 ≤ e .nameWidth
   pub name-most : e .nameWidth ≤ 129
-  pub format-least : 12 ≤ e .formatWidth
   pub format-most : e .formatWidth ≤ 57
-  pub var-label-least : 81 ≤ e .varLabelWidth
   pub var-label-most : e .varLabelWidth ≤ 321
   -- strL cells and records
-  pub v-least : 2 ≤ e .vWidth
-  pub o-least : 4 ≤ e .oWidth
   pub eight : e .vWidth + e .oWidth ≡ 8
-  pub record-least : 4 ≤ e .recordWidth
   pub record-most : e .recordWidth ≤ 8
 
 pub widths : (r : Release) → Widths (edition r)
@@ -117,21 +108,13 @@ widths r =
     record {
       number-some = ltb-true 0 _ (each (λ s. ltb 0 (edition s .number)) refl r);
       number-most = ltb-true _ 256 (each (λ s. ltb (edition s .number) 256) refl r);
-      n-least = leb-true 4 _ (each (λ s. leb 4 (edition s .nWidth)) refl r);
       n-most = leb-true _ 8 (each (λ s. leb (edition s .nWidth) 8) refl r);
-      label-least = leb-true 80 _ (each (λ s. leb 80 (edition s .labelMax)) refl r);
       label-most = leb-true _ 320 (each (λ s. leb (edition s .labelMax) 320) refl r);
-      length-least = leb-true 1 _ (each (λ s. leb 1 (edition s .labelLength)) refl r);
       length-most = leb-true _ 2 (each (λ s. leb (edition s .labelLength) 2) refl r);
       name-least = leb-true 33 _ (each (λ s. leb 33 (edition s .nameWidth)) refl r);
       name-most = leb-true _ 129 (each (λ s. leb (edition s .nameWidth) 129) refl r);
-      format-least = leb-true 12 _ (each (λ s. leb 12 (edition s .formatWidth)) refl r);
       format-most = leb-true _ 57 (each (λ s. leb (edition s .formatWidth) 57) refl r);
-      var-label-least = leb-true 81 _ (each (λ s. leb 81 (edition s .varLabelWidth)) refl r);
       var-label-most = leb-true _ 321 (each (λ s. leb (edition s .varLabelWidth) 321) refl r);
-      v-least = leb-true 2 _ (each (λ s. leb 2 (edition s .vWidth)) refl r);
-      o-least = leb-true 4 _ (each (λ s. leb 4 (edition s .oWidth)) refl r);
       eight = eqb-true _ 8 (each (λ s. eqb (edition s .vWidth + edition s .oWidth) 8) refl r);
-      record-least = leb-true 4 _ (each (λ s. leb 4 (edition s .recordWidth)) refl r);
       record-most = leb-true _ 8 (each (λ s. leb (edition s .recordWidth) 8) refl r);
     }

@@ -2,4 +2,3 @@ pub mod NumberLaws
 pub mod TextLaws
 pub mod NewLaws
 pub mod OldLaws
-pub mod FileLaws
