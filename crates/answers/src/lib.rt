@@ -1,16 +1,18 @@
+#![tactic(auto)]
+
 ghost use Rattle.std.specs.Prelude.{◌≡◌, cond, ◌+◌, ◌*◌};
 ghost use Rattle.questions.specs.Ask.{text_part};
 ghost use Rattle.answers.specs.Answers.{no_number, part_by, no_part, said, part_in};
 
 // A number; or a refusal by its number, else 0.
-#[derive(Drop)]
+#[derive(Clone, Copy)]
 pub struct Number {
     pub code: u8,
     pub value: u64,
 }
 
 // A part of the file by place and length; or a refusal by its number, else 0.
-#[derive(Drop)]
+#[derive(Clone, Copy)]
 pub struct Part {
     pub code: u8,
     pub at: u64,

@@ -1,4 +1,7 @@
 // Every question of document 01 over any file and any layout, in one function.
+
+#![tactic(auto)]
+
 ghost use Rattle.std.specs.Prelude.{◌≡◌};
 ghost use Rattle.checking.specs.Checks.{layout_by};
 ghost use Rattle.asking.specs.Asking.{Asked, by_number, by_part, by_mark, by_type, by_cell, by_long, by_words};
@@ -13,7 +16,7 @@ use variable_facts::Typed;
 use walks::{Long, Words};
 
 // A question: of the header; of a variable, counted from 1; of a cell, by variable and observation.
-#[derive(Drop)]
+#[derive(Clone, Copy)]
 pub enum Question {
     Edition,
     Order,
@@ -35,7 +38,7 @@ pub enum Question {
 
 // An answer: a refusal by its number; a number; yes or no; a type by kind and width; a part of the file by place and length; what a cell
 // says; the lent plain text; a long string by kind, place and length.
-#[derive(Drop)]
+#[derive(Clone, Copy)]
 pub enum Answer {
     Refused(u8),
     Count(u64),

@@ -1,4 +1,7 @@
 // The number of cases that the proofs state.
+
+#![tactic(auto)]
+
 pub fn count() -> u64 {
     170
 }

@@ -1,3 +1,5 @@
+#![tactic(auto)]
+
 ghost use Rattle.std.specs.Prelude.{◌≡◌, ◌+◌, ◌*◌, ◌<◌, ◌≤◌, length};
 ghost use Rattle.format.specs.Number.{order_by};
 ghost use Rattle.format.specs.Cells.{says_whole, says_float, says_double, says_at, key_real, key_of};
@@ -9,7 +11,7 @@ use codes::Kind;
 
 // What a cell says: a whole number, a float or a double; a missing letter, 0 for `.` and 1 to 26 for `.a` to `.z`; between two letters or
 // after the last; outside; a text, by its place and length in the file; a long-string reference.
-#[derive(Drop)]
+#[derive(Clone, Copy)]
 pub enum Cell {
     Whole(i32),
     Single(f32),
@@ -22,7 +24,7 @@ pub enum Cell {
 }
 
 // What a cell seeks in a label table.
-#[derive(Drop)]
+#[derive(Clone, Copy)]
 pub enum Key {
     Seeks(i32),
     Nothing,

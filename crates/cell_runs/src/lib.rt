@@ -1,5 +1,8 @@
 // Cells one after another, down a column or along a row, for callers who read many: none costs more than its own bytes and, along a row, its
 // type code.
+
+#![tactic(auto)]
+
 ghost use Rattle.std.specs.Prelude.{◌≡◌, ◌++◌, ℕ, ◌+◌, ◌/◌, ◌≤◌, ◌<◌, length, drop};
 ghost use Rattle.format.specs.Number.{order_by};
 ghost use Rattle.questions.specs.Ask.{place, ask_cell};

@@ -1,3 +1,5 @@
+#![tactic(auto)]
+
 ghost use Rattle.std.specs.Prelude.{◌≡◌, ◌+◌};
 ghost use Rattle.format.specs.Number.{order_by};
 ghost use Rattle.questions.specs.Ask.{answer_of, ask_column, ask_cell};
@@ -12,7 +14,7 @@ use codes::Kind;
 use columns::Column;
 
 // A cell's content: the refusal number; where it is 0, what the cell says.
-#[derive(Drop)]
+#[derive(Clone, Copy)]
 pub struct Said {
     pub code: u8,
     pub cell: Cell,
@@ -79,7 +81,7 @@ fn read_cell(f: &[u8], p: u64, kind: Kind, width: usize, vw: usize, ow: usize, m
 }
 
 // Where a row of the data stands: the refusal number of its cells; where it is 0, the row's place.
-#[derive(Drop)]
+#[derive(Clone, Copy)]
 pub struct Row {
     pub code: u8,
     pub at: u64,

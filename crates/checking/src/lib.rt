@@ -1,3 +1,5 @@
+#![tactic(auto)]
+
 ghost use Rattle.std.specs.Prelude.{◌≡◌, cond, ℕ, ◌+◌, ◌≤◌, length};
 ghost use Rattle.format.specs.Number.{order_by};
 ghost use Rattle.format.specs.Grammar.{read_times};
@@ -14,7 +16,7 @@ use editions::Edition;
 use strls::Frame;
 
 // A layout: edition, byte order (1 MSF, 2 LSF), K, N, and the fourteen positions.
-#[derive(Drop)]
+#[derive(Clone, Copy)]
 pub struct Layout {
     pub edition: u64,
     pub order: u64,
@@ -24,21 +26,21 @@ pub struct Layout {
 }
 
 // The answer for a file: its refusal number, 0 where it is accepted; and its layout, all zeros with a refusal.
-#[derive(Drop)]
+#[derive(Clone, Copy)]
 pub struct Checked {
     pub code: u8,
     pub layout: Layout,
 }
 
 // The answer for the sections from the expansion blocks on: the first refusal; where it is 0, the positions.
-#[derive(Drop)]
+#[derive(Clone, Copy)]
 pub struct Rest {
     pub code: u8,
     pub places: [u64; 14],
 }
 
 // The answer for all sections: the first refusal; where it is 0, K, N, where the map starts, and the fourteen positions.
-#[derive(Drop)]
+#[derive(Clone, Copy)]
 pub struct Walk {
     pub code: u8,
     pub k: usize,

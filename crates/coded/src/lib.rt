@@ -1,4 +1,7 @@
 // Answers as numbers.
+
+#![tactic(auto)]
+
 ghost use Rattle.std.specs.Prelude.{◌≡◌, ◌++◌, true, cond, ◌≤◌, length, drop};
 ghost use Rattle.std.specs.Float.{binary32, binary64};
 ghost use Rattle.format.specs.Variables.{code_of};
@@ -11,7 +14,7 @@ use cell::Cell;
 use codes::Kind;
 
 // An answer as numbers: `kind` tells what the others are.
-#[derive(Drop)]
+#[derive(Clone, Copy)]
 pub struct Four {
     pub kind: u64,
     pub a: u64,
@@ -20,7 +23,7 @@ pub struct Four {
 }
 
 // The answer of a run of cells: 16 where the cell that it begins with is not there, else 0; and how many answers were stored.
-#[derive(Drop)]
+#[derive(Clone, Copy)]
 pub struct Run {
     pub code: u8,
     pub count: usize,

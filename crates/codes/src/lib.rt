@@ -1,9 +1,11 @@
+#![tactic(auto)]
+
 ghost use Rattle.std.specs.Prelude.{◌≡◌, true, false};
 ghost use Rattle.format.specs.Edition.{code_width};
 ghost use Rattle.codes.specs.Fields.{field_of};
 
 // The kind of a variable's cells.
-#[derive(Drop)]
+#[derive(Clone, Copy)]
 pub enum Kind {
     Text,
     StrL,
@@ -16,7 +18,7 @@ pub enum Kind {
 }
 
 // What a type code says: the kind of the cells, and how many bytes each has.
-#[derive(Drop)]
+#[derive(Clone, Copy)]
 pub struct Field {
     pub kind: Kind,
     pub width: usize,

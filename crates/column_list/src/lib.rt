@@ -1,4 +1,7 @@
 // Where the cells of many variables stand: the offsets of all are found in one pass over the type codes.
+
+#![tactic(auto)]
+
 ghost use Rattle.std.specs.Prelude.{◌≡◌, length};
 ghost use Rattle.questions.specs.Ask.{answer_of, ask_column};
 ghost use Rattle.checking.specs.Checks.{layout_by};

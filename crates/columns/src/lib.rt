@@ -1,3 +1,5 @@
+#![tactic(auto)]
+
 ghost use Rattle.std.specs.Prelude.{◌≡◌, ◌+◌, ◌*◌, ◌≤◌, length};
 ghost use Rattle.format.specs.Number.{order_by};
 ghost use Rattle.format.specs.Edition.{code_width};
@@ -12,7 +14,7 @@ use reading::Read;
 
 // Where a variable's cells stand: the refusal number; where it is 0, kind and width of the cells, their offset in a row, and the width of
 // a row.
-#[derive(Drop)]
+#[derive(Clone, Copy)]
 pub struct Column {
     pub code: u8,
     pub kind: Kind,

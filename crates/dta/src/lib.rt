@@ -1,4 +1,7 @@
 // The functions that programs in other languages call: numbers and slices alone.
+
+#![tactic(auto)]
+
 ghost use Rattle.std.specs.Prelude.{◌≡◌, ℕ, ◌≤◌, ◌++◌, length, drop};
 ghost use Rattle.format.specs.Dta.{verdict, layout_of};
 ghost use Rattle.checking.specs.Checks.{layout_by};

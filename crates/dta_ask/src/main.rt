@@ -1,6 +1,8 @@
 // Asks questions about files and writes a line for each answer. On standard input are records: twenty-one numbers of eight bytes, least significant
 // byte first, and a file of at most 262,144 bytes. The numbers are the file's length, the eighteen of a layout, a variable and an observation. Each record is answered with a line for each question, in the order of `ask_all`.
 
+#![tactic(auto)]
+
 ghost use Rattle.std.specs.Prelude.{◌≤◌};
 
 use cell::Cell;

@@ -1,5 +1,8 @@
 // The questions, as programs in other languages ask them: numbers and slices alone. A layout is eighteen numbers: edition, byte order, K, N, and the
 // fourteen positions; where there are fewer, all are taken as zeros. An answer is four numbers (crates/coded/specs/Coded.antt).
+
+#![tactic(auto)]
+
 ghost use Rattle.std.specs.Prelude.{◌≡◌, [], cond, length, eqb, ℕ, ◌+◌};
 ghost use Rattle.questions.specs.Ask.{ask_cell, ask_words};
 ghost use Rattle.format.specs.Dta.{verdict, layout_of};

@@ -1,5 +1,7 @@
 // Reads a .dta file of at most 65,536 bytes from standard input and writes one line: edition, byte order, K, N and length, or its refusal.
 
+#![tactic(auto)]
+
 use checking::Layout;
 
 // Writes the byte order.

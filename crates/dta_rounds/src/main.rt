@@ -2,6 +2,9 @@
 // 65,536. Three times around, the file is rewritten to each edition in each byte order, each time from the last result that was done. Each step is
 // answered with a line: edition, byte order, number and length; and each file, at the end, with the checksum of the last result. A file that is not well
 // formed gets its refusal alone.
+
+#![tactic(auto)]
+
 ghost use Rattle.std.specs.Prelude.{◌≤◌, length};
 
 // Writes a number and a space.

@@ -1,6 +1,8 @@
 // Runs vectors through the functions that read cells, type codes and label tables, and writes a line for each. The vectors are on standard
 // input (tools/vectors.py writes them): rows of 34 bytes, of which the first tells what the row has.
 
+#![tactic(auto)]
+
 ghost use Rattle.std.specs.Prelude.{◌<◌};
 ghost use Rattle.cell.specs.Cells.{Lettered, says};
 

@@ -1,10 +1,12 @@
+#![tactic(auto)]
+
 ghost use Rattle.std.specs.Prelude.{◌≡◌, cond};
 ghost use Rattle.format.specs.Edition.{r117, r118, edition, is_release, release_by};
 ghost use Rattle.format.specs.Dta.{begins, known, edition_of, is_msf};
 ghost use Rattle.editions.specs.Editions.{numbers_of, row_of};
 
 // The numbers that an edition's layout depends on.
-#[derive(Drop)]
+#[derive(Clone, Copy)]
 pub struct Edition {
     pub number: u8,
     pub tagged: bool,

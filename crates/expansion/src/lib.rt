@@ -1,3 +1,5 @@
+#![tactic(auto)]
+
 ghost use Rattle.std.specs.Prelude.{◌≡◌, not, ◌&&◌, ◌<◌, ◌≤◌, length, get_or, eqb};
 ghost use Rattle.format.specs.Number.{order_by};
 ghost use Rattle.format.specs.Edition.{kind_width};

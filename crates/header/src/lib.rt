@@ -1,3 +1,5 @@
+#![tactic(auto)]
+
 ghost use Rattle.std.specs.Prelude.{◌≡◌, true, false, ◌+◌, ◌≤◌, length};
 ghost use Rattle.format.specs.Number.{order_by};
 ghost use Rattle.format.specs.Grammar.{lit, text, raw, no_zero, seq, tag, between};
@@ -10,7 +12,7 @@ ghost use Rattle.header.specs.Heads.{Begun, Headed, refused_head};
 
 // The answer of a header: its refusal number, 0 where it is right; where what follows starts; K and N. All zeros but the number with
 // a refusal.
-#[derive(Drop)]
+#[derive(Clone, Copy)]
 pub struct Head {
     pub code: u8,
     pub at: usize,

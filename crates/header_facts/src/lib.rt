@@ -1,3 +1,5 @@
+#![tactic(auto)]
+
 ghost use Rattle.std.specs.Prelude.{◌≡◌, cond, ◌≤◌};
 ghost use Rattle.format.specs.Number.{order_by};
 ghost use Rattle.questions.specs.Readings.{got};

@@ -1,3 +1,5 @@
+#![tactic(auto)]
+
 ghost use Rattle.std.specs.Prelude.{◌≡◌, ℕ, ◌+◌, ◌*◌, ◌<◌, ◌≤◌, length, get_or};
 ghost use Rattle.format.specs.Number.{order_by};
 ghost use Rattle.format.specs.Grammar.{Sect, number, done, read_times, all_below, past_zero};

@@ -1,3 +1,5 @@
+#![tactic(auto)]
+
 ghost use Rattle.std.specs.Prelude.{◌≡◌, ℕ, ◌≤◌, length};
 ghost use Rattle.format.specs.Number.{order_by};
 ghost use Rattle.format.specs.Variables.{names, formats, set_names, var_labels};
@@ -10,7 +12,7 @@ use section::Step;
 
 // The answer for the lists with an entry for each variable: the first refusal; where it is 0, where what follows them starts, and the
 // positions.
-#[derive(Drop)]
+#[derive(Clone, Copy)]
 pub struct Lists {
     pub code: u8,
     pub at: usize,

@@ -1,4 +1,7 @@
 // The long strings of a file, as numbers: a caller who reads many finds each by v and o, without a walk for each.
+
+#![tactic(auto)]
+
 ghost use Rattle.std.specs.Prelude.{◌≡◌, ◌+◌, ◌≤◌, length};
 ghost use Rattle.format.specs.Number.{order_by};
 ghost use Rattle.format.specs.Data.{long_record};
@@ -13,7 +16,7 @@ use sources::Source;
 
 // A file as a list takes it: its refusal number; where it is 0, the numbers of its edition, whether its byte order is MSF, and where the
 // contents of its parts stand.
-#[derive(Drop)]
+#[derive(Clone, Copy)]
 pub struct Opening {
     pub code: u8,
     pub e: Edition,
@@ -23,7 +26,7 @@ pub struct Opening {
 
 // The answer of a list: the file's refusal number, else 14 where the slice is shorter than the list; and how many numbers the list has, 0 where
 // the file is refused.
-#[derive(Drop)]
+#[derive(Clone, Copy)]
 pub struct Listed {
     pub code: u8,
     pub count: u64,

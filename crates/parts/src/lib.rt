@@ -1,4 +1,7 @@
 // The bytes of a file that answers name, handed back for any file and any layout.
+
+#![tactic(auto)]
+
 ghost use Rattle.std.specs.Prelude.{◌≡◌, List, [], ℕ};
 ghost use Rattle.questions.specs.Ask.{slice, shown_by, shown};
 ghost use Rattle.checking.specs.Checks.{layout_by};
@@ -11,7 +14,7 @@ use cell::Cell;
 use checking::Layout;
 
 // Where bytes stand in the file.
-#[derive(Drop)]
+#[derive(Clone, Copy)]
 struct Span {
     at: u64,
     len: u64,

@@ -1,3 +1,5 @@
+#![tactic(auto)]
+
 ghost use Rattle.std.specs.Prelude.{◌≡◌, cond, ◌+◌, ◌*◌, ◌≤◌};
 ghost use Rattle.format.specs.Number.{order_by};
 ghost use Rattle.format.specs.Dta.{sums};
@@ -8,7 +10,7 @@ use editions::Edition;
 use sources::Source;
 
 // How many bytes the header, the rows, the long strings and the label blocks of a result have.
-#[derive(Drop)]
+#[derive(Clone, Copy)]
 pub struct Sizes {
     pub head: usize,
     pub rows: usize,
@@ -17,7 +19,7 @@ pub struct Sizes {
 }
 
 // The fourteen positions of a result.
-#[derive(Drop)]
+#[derive(Clone, Copy)]
 pub struct Plan {
     pub places: [u64; 14],
 }

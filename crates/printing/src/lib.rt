@@ -1,6 +1,9 @@
 // What programs write on standard output.
 
 // Writes a text.
+
+#![tactic(auto)]
+
 pub fn say(t: &[u8]) {
     io::write_all(1, t);
 }

@@ -1,3 +1,5 @@
+#![tactic(auto)]
+
 ghost use Rattle.std.specs.Prelude.{◌≡◌, cond, ◌&&◌, ◌+◌, ◌-◌, ◌*◌, ◌≤◌, length, leb, ltb};
 ghost use Rattle.format.specs.Number.{order_by};
 ghost use Rattle.questions.specs.Ask.{among};
@@ -6,14 +8,14 @@ ghost use Rattle.reading.specs.Reads.{read_by, no_read, NumberRead, length_in, p
 use editions::Edition;
 
 // What a reading says: a number, where all that it needs is in the file.
-#[derive(Drop)]
+#[derive(Clone, Copy)]
 pub struct Read {
     pub there: bool,
     pub value: u64,
 }
 
 // An edition and a byte order, where both are read; then the edition's numbers.
-#[derive(Drop)]
+#[derive(Clone, Copy)]
 pub struct Opened {
     pub there: bool,
     pub msf: bool,

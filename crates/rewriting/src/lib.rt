@@ -1,3 +1,5 @@
+#![tactic(auto)]
+
 ghost use Rattle.std.specs.Prelude.{◌≡◌};
 ghost use Rattle.format.specs.Dta.{dataset_of};
 ghost use Rattle.editions.specs.Editions.{numbers_of};
@@ -9,7 +11,7 @@ use editions::Edition;
 use sources::Source;
 
 // The answer of a rewrite: its refusal number, 0 where it is done; and how many bytes the result has, 0 with a refusal.
-#[derive(Drop)]
+#[derive(Clone, Copy)]
 pub struct Rewritten {
     pub code: u8,
     pub len: u64,

@@ -1,3 +1,5 @@
+#![tactic(auto)]
+
 ghost use Rattle.std.specs.Prelude.{◌≡◌, ◌+◌, ◌<◌, ◌≤◌, length};
 ghost use Rattle.format.specs.Number.{order_by, num};
 ghost use Rattle.format.specs.Cells.{signed_by};
@@ -5,7 +7,7 @@ ghost use Rattle.format.specs.Search.{search_at};
 ghost use Rattle.search.specs.Slots.{slot_of};
 
 // Where a value stands in a label table.
-#[derive(Drop)]
+#[derive(Clone, Copy)]
 pub enum Slot {
     Found(usize),
     Missing,

@@ -1,10 +1,12 @@
+#![tactic(auto)]
+
 ghost use Rattle.std.specs.Prelude.{◌≡◌, ℕ, ◌+◌, ◌*◌, ◌≤◌, [], cond, ◌&&◌, ◌||◌, length, eqb};
 ghost use Rattle.format.specs.Grammar.{Sect, tag, within, times, judge_times, between};
 ghost use Rattle.section.specs.Judged.{Judged, field};
 ghost use Rattle.section.specs.Parts.{Opened, Closed};
 
 // The answer of a section: its refusal number, 0 where it is right; and where what follows starts.
-#[derive(Drop)]
+#[derive(Clone, Copy)]
 pub struct Step {
     pub code: u8,
     pub at: usize,

@@ -1,4 +1,7 @@
 // The label sets of a file, as numbers.
+
+#![tactic(auto)]
+
 ghost use Rattle.std.specs.Prelude.{[], ◌∷◌, ◌≡◌, ◌+◌, ◌*◌, ◌≤◌, length};
 ghost use Rattle.format.specs.Number.{order_by, num};
 ghost use Rattle.format.specs.Grammar.{text_at};
@@ -14,7 +17,7 @@ ghost use Rattle.text_ends.specs.Ends.{Ends};
 use long_list::Listed;
 
 // Where a label block's name and table stand, how many entries and text bytes the table has, and where the next block stands.
-#[derive(Drop)]
+#[derive(Clone, Copy)]
 struct Block {
     name: usize,
     table: usize,

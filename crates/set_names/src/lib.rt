@@ -1,4 +1,7 @@
 // Label-set names of variables in order: by the first byte that differs, and a name before those that it begins.
+
+#![tactic(auto)]
+
 ghost use Rattle.std.specs.Prelude.{◌≡◌, true, ◌+◌, ◌≤◌, length};
 ghost use Rattle.questions.specs.Ask.{slice};
 ghost use Rattle.checking.specs.Checks.{layout_by};
@@ -7,7 +10,7 @@ ghost use Rattle.set_names.specs.Names.{IsName, less, in_order, IsFirst};
 use checking::Layout;
 
 // A text of the file, by place and length.
-#[derive(Drop)]
+#[derive(Clone, Copy)]
 pub struct Name {
     pub at: usize,
     pub len: usize,

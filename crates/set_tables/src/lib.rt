@@ -1,5 +1,8 @@
 // The label tables of many variables, found in one pass over the label blocks: where the variables are listed in the order of their label-set names, those of
 // a block's name are found by halving. In any other order nothing is found, and the caller looks for each by itself.
+
+#![tactic(auto)]
+
 ghost use Rattle.std.specs.Prelude.{◌≡◌, true, ◌+◌, ◌≤◌, length};
 ghost use Rattle.format.specs.Number.{order_by};
 ghost use Rattle.questions.specs.Ask.{slice};
@@ -12,7 +15,7 @@ use checking::Layout;
 use walks::LabelSet;
 
 // Whether the tables were found; and what a variable answers for whose name there is no block: 0, or 17 where a block on the way is not whole.
-#[derive(Drop)]
+#[derive(Clone, Copy)]
 pub struct Tables {
     pub there: bool,
     pub code: u8,

@@ -1,4 +1,7 @@
 // The sort order of a file, whole: a caller who wants it asks once, without a walk over the sort list for each variable.
+
+#![tactic(auto)]
+
 ghost use Rattle.std.specs.Prelude.{◌≡◌, ◌+◌, ◌*◌, ◌≤◌, length};
 ghost use Rattle.format.specs.Number.{order_by};
 ghost use Rattle.format.specs.Grammar.{number, read_times, ended_at};

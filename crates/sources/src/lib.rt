@@ -1,3 +1,5 @@
+#![tactic(auto)]
+
 ghost use Rattle.std.specs.Prelude.{◌≡◌, cond, ◌+◌, ◌≤◌, length};
 ghost use Rattle.sources.specs.Sources.{Own, Opened, Sourced};
 
@@ -6,7 +8,7 @@ use editions::Edition;
 
 // K and N of an accepted file; where the contents of its parts start: type list, names, sort list, display formats, label-set names,
 // variable labels, rows, long strings, label blocks; where the last two end; and place and length of the dataset label and the stamp.
-#[derive(Drop)]
+#[derive(Clone, Copy)]
 pub struct Source {
     pub k: usize,
     pub n: usize,

@@ -1,3 +1,5 @@
+#![tactic(auto)]
+
 ghost use Rattle.std.specs.Prelude.{◌≡◌, true, cond, ◌+◌, ◌*◌, ◌<◌, ◌≤◌, length};
 ghost use Rattle.format.specs.Number.{order_by};
 ghost use Rattle.format.specs.Data.{long_next, long_record, strls};
@@ -10,7 +12,7 @@ use section::Step;
 
 // Where the type list and the data's first row stand, how many variables and observations there are, whether the edition has
 // tags, the byte order, and the widths of v and o in a cell and of o in a record.
-#[derive(Drop)]
+#[derive(Clone, Copy)]
 pub struct Frame {
     pub types: usize,
     pub k: usize,

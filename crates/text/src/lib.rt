@@ -1,3 +1,5 @@
+#![tactic(auto)]
+
 ghost use Rattle.std.specs.Prelude.{◌≡◌, ◌++◌, false, ℕ, suc, ◌+◌, ◌≤◌, ◌<◌, length, take, drop, replicate, eqb};
 ghost use Rattle.format.specs.Slot.{fill};
 ghost use Rattle.format.specs.Grammar.{text_at, text_slots, same_at, tag};

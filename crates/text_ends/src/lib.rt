@@ -1,4 +1,7 @@
 // Where the texts in a text area end: many entries of a label table may name one long text, so its end is looked for once.
+
+#![tactic(auto)]
+
 ghost use Rattle.std.specs.Prelude.{◌≡◌, ◌+◌, ◌-◌, ◌≤◌, length};
 ghost use Rattle.text.specs.Texts.{IsTextLength};
 ghost use Rattle.text_ends.specs.Ends.{EndsBy, Ends};

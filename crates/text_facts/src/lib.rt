@@ -1,3 +1,5 @@
+#![tactic(auto)]
+
 ghost use Rattle.std.specs.Prelude.{◌≡◌};
 ghost use Rattle.questions.specs.Ask.{answer_of, is_date, ask_name, ask_format, ask_set, ask_var_label, ask_date};
 ghost use Rattle.checking.specs.Checks.{layout_by};
@@ -8,7 +10,7 @@ use answers::Part;
 use checking::Layout;
 
 // Yes or no; or a refusal by its number, else 0.
-#[derive(Drop)]
+#[derive(Clone, Copy)]
 pub struct Mark {
     pub code: u8,
     pub yes: bool,

@@ -1,3 +1,5 @@
+#![tactic(auto)]
+
 ghost use Rattle.std.specs.Prelude.{◌≡◌, suc, ◌+◌, ◌*◌, ◌≤◌, length};
 ghost use Rattle.format.specs.Number.{order_by};
 ghost use Rattle.format.specs.Edition.{code_width};
@@ -12,7 +14,7 @@ use checking::Layout;
 use codes::Kind;
 
 // A type: the kind of a variable's cells, and how many bytes each has; or a refusal by its number, else 0.
-#[derive(Drop)]
+#[derive(Clone, Copy)]
 pub struct Typed {
     pub code: u8,
     pub kind: Kind,

@@ -1,5 +1,8 @@
 // A view holds a file's slice with its layout in one struct, and answers the questions alike. The functions over the struct are thin: each
 // takes it apart and calls a function with plain parameters.
+
+#![tactic(auto)]
+
 ghost use Rattle.std.specs.Prelude.{◌≡◌, []};
 ghost use Rattle.format.specs.Dta.{verdict, layout_of};
 ghost use Rattle.checking.specs.Checks.{layout_by};
@@ -11,7 +14,7 @@ use asking::{Answer, Question};
 use checking::Layout;
 
 // A file's slice with its layout.
-#[derive(Drop)]
+#[derive(Clone, Copy)]
 pub struct View<'a> {
     pub file: &'a [u8],
     pub layout: Layout,

@@ -1,4 +1,7 @@
 // Functions with plain parameters that make a view and ask it: callers need no walk through code that holds a reference in a struct.
+
+#![tactic(auto)]
+
 ghost use Rattle.std.specs.Prelude.{◌≡◌, []};
 ghost use Rattle.format.specs.Dta.{verdict, layout_of};
 ghost use Rattle.checking.specs.Checks.{layout_by};

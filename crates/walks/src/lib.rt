@@ -1,3 +1,5 @@
+#![tactic(auto)]
+
 ghost use Rattle.std.specs.Prelude.{◌≡◌, ℕ, ◌+◌, ◌*◌, ◌<◌, ◌≤◌, length};
 ghost use Rattle.format.specs.Number.{order_by};
 ghost use Rattle.questions.specs.Ask.{or_refused, slice};
@@ -7,7 +9,7 @@ ghost use Rattle.walks.specs.Walks.{IsSize, is_of, long_at, records_from, entry_
 use search::Slot;
 
 // A long string: the refusal number; where it is 0, kind, place and length of the contents.
-#[derive(Drop)]
+#[derive(Clone, Copy)]
 pub struct Long {
     pub code: u8,
     pub kind: u8,
@@ -16,7 +18,7 @@ pub struct Long {
 }
 
 // Label words: the refusal number; where it is 0, whether a label is found, and its place and length without the terminator.
-#[derive(Drop)]
+#[derive(Clone, Copy)]
 pub struct Words {
     pub code: u8,
     pub found: bool,
@@ -25,7 +27,7 @@ pub struct Words {
 }
 
 // A label set: the refusal number; where it is 0, whether it has a table, and its place and length.
-#[derive(Drop)]
+#[derive(Clone, Copy)]
 pub struct LabelSet {
     pub code: u8,
     pub found: bool,
@@ -34,7 +36,7 @@ pub struct LabelSet {
 }
 
 // A label block: whether it lies whole in its part, with a table as long as it says; then the lengths of its table and its name.
-#[derive(Drop)]
+#[derive(Clone, Copy)]
 pub struct Block {
     pub there: bool,
     pub table: u64,

@@ -1,6 +1,9 @@
 // Label words of several variables at once: the offsets of all cells in a row are found in one pass over the type codes, and all label tables in one pass over the
 // label blocks, where the variables are listed in the order of their label-set names. Variables of one label set that are listed beside each other share the list of
 // where its texts end.
+
+#![tactic(auto)]
+
 ghost use Rattle.std.specs.Prelude.{◌≡◌, ◌++◌, ◌*◌, ◌/◌, ◌≤◌, ◌<◌, length, get_or, drop};
 ghost use Rattle.questions.specs.Ask.{answer_of, ask_table};
 ghost use Rattle.checking.specs.Checks.{layout_by};

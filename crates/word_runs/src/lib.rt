@@ -1,6 +1,9 @@
 // Label words one after another, down a column: the variable's label set is looked for once, and each cell's value is sought in its table. A text is gone
 // through to its end, until that has cost more than its whole text area; then the ends of all its texts are found, once, so that each later cell costs at
 // most 256 text bytes. Columns of one label set can share the list of ends. Only a wrong layout shows a text area of more than 5,308,416 bytes, or one that passes the file's end: there each cell's text is gone through.
+
+#![tactic(auto)]
+
 ghost use Rattle.std.specs.Prelude.{◌≡◌, ◌++◌, ◌+◌, ◌*◌, ◌≤◌, length, drop};
 ghost use Rattle.checking.specs.Checks.{layout_by};
 ghost use Rattle.asking.specs.Asking.{answer_by, by_words};
@@ -16,14 +19,14 @@ use columns::Column;
 use walks::{LabelSet, Words};
 
 // The text area of a label table, by place and length.
-#[derive(Drop)]
+#[derive(Clone, Copy)]
 struct Area {
     at: usize,
     len: usize,
 }
 
 // What is listed of a text area, by place and length: how many of its bytes have their ends listed, none or all, and how many text bytes were gone through.
-#[derive(Drop)]
+#[derive(Clone, Copy)]
 pub struct Listing {
     pub at: usize,
     pub len: usize,

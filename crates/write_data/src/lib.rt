@@ -1,3 +1,5 @@
+#![tactic(auto)]
+
 ghost use Rattle.std.specs.Prelude.{◌≡◌, cond, ◌++◌, ℕ, ◌+◌, ◌*◌, ◌/◌, ◌%◌, ◌≤◌, ◌<◌, length, drop};
 ghost use Rattle.format.specs.Slot.{fill};
 ghost use Rattle.format.specs.Number.{msf, lsf};
@@ -12,7 +14,7 @@ use codes::Kind;
 
 // Where `n` observations of `k` variables stand: the first row at `p`, the type list at `types`; whether the edition has tags, the
 // byte order, and the widths of v and o in a str_l cell.
-#[derive(Drop)]
+#[derive(Clone, Copy)]
 pub struct Source {
     pub p: usize,
     pub n: usize,
@@ -25,7 +27,7 @@ pub struct Source {
 }
 
 // How cells are read and how they are written: the byte order, and the widths of v and o in a str_l cell.
-#[derive(Drop)]
+#[derive(Clone, Copy)]
 pub struct Forms {
     pub msf: bool,
     pub v: usize,

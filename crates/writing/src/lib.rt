@@ -1,3 +1,5 @@
+#![tactic(auto)]
+
 ghost use Rattle.std.specs.Prelude.{◌≡◌, [], cond, ◌≤◌, length};
 ghost use Rattle.writing.specs.Writes.{Puts};
 
