@@ -1,0 +1,12 @@
+use native.Mathlib.Omega.{arith}
+use Prim.Native.Nat.{◌+◌}
+use Rattle.columns.proofs.ColumnLaws.{capped_small, capped_large}
+use Rattle.cell_runs.proofs.add_capped.Goals as goal
+
+pub returns-then-a-b : goal.returns-then-a-b
+returns-then-a-b c =
+    let a = c.args in capped_small (a.a + a.b) (omega arith)
+
+pub returns-else-a-b : goal.returns-else-a-b
+returns-else-a-b c =
+    let a = c.args in capped_large (a.a + a.b) (omega arith)

@@ -1,0 +1,6 @@
+use Rattle.dta_facts.proofs.StoreLaws.{listed_stored}
+use Rattle.dta_facts.proofs.dta_set_list.Goals as goal
+
+pub returns : goal.returns
+returns c =
+    listed_stored c.args.count.now c.set_list-sets.ensures c.put_first.ensures

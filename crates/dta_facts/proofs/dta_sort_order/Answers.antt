@@ -1,0 +1,6 @@
+use Rattle.dta_facts.proofs.StoreLaws.{listed_stored}
+use Rattle.dta_facts.proofs.dta_sort_order.Goals as goal
+
+pub returns : goal.returns
+returns c =
+    listed_stored c.args.count.now c.sort_order-sorted.ensures c.put_first.ensures

@@ -1,0 +1,9 @@
+use Rattle.format.specs.Edition.{n_value_label_names}
+use Rattle.lists.proofs.ListLaws.{fields_judged}
+use Rattle.lists.proofs.set_list.Goals as goal
+
+-- src/lib.rt:55:1
+pub returns : goal.returns
+returns c =
+    let a = c.args in
+    fields_judged a.tagged a.w a.k a.f.now a.p _ n_value_label_names c.text_list.ensures

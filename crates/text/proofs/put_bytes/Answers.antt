@@ -1,0 +1,22 @@
+use Prim.Native.Nat.{◌-◌}
+use mathlib.Core.Path.{◌≡◌, refl, ◌∙◌}
+use native.Mathlib.Omega.{arith}
+use Rattle.text.proofs.Lay.{laid_none, laid_as, laid_byte}
+use Rattle.text.proofs.TextLaws.{bytes_turn}
+use Rattle.text.proofs.put_bytes.Goals as goal
+
+pub loop-i-init : goal.loop-i-init
+loop-i-init c = (omega arith, laid_none _)
+
+pub loop-i-preserved : goal.loop-i-preserved
+loop-i-preserved c =
+    let a = c.args in
+    (omega arith, laid_as (laid_byte c.loop-i.invariant.1 _ (omega arith)) (bytes_turn a.f.now a.p c.loop-i.i (omega arith)) refl)
+
+pub shape_of-out : goal.shape_of-out
+shape_of-out c = c.loop-i.invariant.1.whole
+
+pub returns : goal.returns
+returns c =
+    let e : c.loop-i.i ≡ c.args.m = omega arith in
+    c.loop-i.invariant.1.is ∙ rw e
