@@ -1,9 +1,8 @@
 // What programs write on standard output.
 
-// Writes a text.
-
 #![tactic(auto)]
 
+// Writes a text.
 pub fn say(t: &[u8]) {
     io::write_all(1, t);
 }
