@@ -9,31 +9,28 @@ use Rattle.cell.proofs.double_key.Goals as goal
 pub truncating_f64_to_i64-t-requires : goal.truncating_f64_to_i64-t-requires
 unfolding of_bits neg
 truncating_f64_to_i64-t-requires c =
-    (asks_low _ c.if-x.true, asks_high _ _ (omega arith) c.if-x.true c.if-x-2.true)
+    record { lower_bound = asks_low _ c.if-x.true; upper_bound = asks_high _ _ (omega arith) c.if-x.true c.if-x-2.true }
 
 pub overflow_cast-result : goal.overflow_cast-result
 unfolding of_bits neg
 overflow_cast-result c =
+    let t = to_z-of_z w64 c.truncating_f64_to_i64-t.result (record { sfits = c.truncating_f64_to_i64-t.type_inv }) ∙ c.truncating_f64_to_i64-t.ensures in
     let h = small _ _ (omega arith) c.if-x.true c.if-x-2.true in
-    record { sfits = subst (λ (z : ℤ). mag z < 2 ^ 31) (sym ((let it : to_z w64 (of_z w64 c.truncating_f64_to_i64-t.result) ≡ to_signed 63 c.args.x = to_z-of_z w64 c.truncating_f64_to_i64-t.result (record { sfits = c.truncating_f64_to_i64-t.type_inv })
-    ∙ c.truncating_f64_to_i64-t.ensures in it))) h }
+    record { sfits = subst (λ (z : ℤ). mag z < 2 ^ 31) (sym t) h }
 
 pub returns-then-nearest_i64_to_f64-x : goal.returns-then-nearest_i64_to_f64-x
 unfolding of_bits neg
 returns-then-nearest_i64_to_f64-x c =
-    let x = c.args.x in
-    let w = subst (λ (y : Float). eq y x ≡ true) ((let it : c.nearest_i64_to_f64.result ≡ of_int binary64 (to_signed 63 c.args.x) = c.nearest_i64_to_f64.ensures ∙ ap (of_int binary64) ((let it : to_z w64 (of_z w64 c.truncating_f64_to_i64-t.result) ≡ to_signed 63 c.args.x = to_z-of_z w64 c.truncating_f64_to_i64-t.result (record { sfits = c.truncating_f64_to_i64-t.type_inv })
-    ∙ c.truncating_f64_to_i64-t.ensures in it)) in it)) c.if-nearest_i64_to_f64-x.true in
-    ap seeks (to_z-of_z w32 _ (overflow_cast-result c.before) ∙ (let it : to_z w64 (of_z w64 c.truncating_f64_to_i64-t.result) ≡ to_signed 63 c.args.x = to_z-of_z w64 c.truncating_f64_to_i64-t.result (record { sfits = c.truncating_f64_to_i64-t.type_inv })
-    ∙ c.truncating_f64_to_i64-t.ensures in it))
+    let t = to_z-of_z w64 c.truncating_f64_to_i64-t.result (record { sfits = c.truncating_f64_to_i64-t.type_inv }) ∙ c.truncating_f64_to_i64-t.ensures in
+    let w = subst (λ (y : Float). eq y c.args.x ≡ true) ((c.nearest_i64_to_f64.ensures ∙ ap (of_int binary64) t)) c.if-nearest_i64_to_f64-x.true in
+    ap seeks (to_z-of_z w32 _ (record { sfits = subst (λ (z : ℤ). mag z < 2 ^ 31) (sym t) (small _ _ (omega arith) c.if-x.true c.if-x-2.true) }) ∙ t)
     ∙ sym (is_whole _ c.if-x.true c.if-x-2.true w)
 
 pub returns-else-nearest_i64_to_f64-x : goal.returns-else-nearest_i64_to_f64-x
 unfolding of_bits neg
 returns-else-nearest_i64_to_f64-x c =
-    let x = c.args.x in
-    let w = subst (λ (y : Float). eq y x ≡ false) ((let it : c.nearest_i64_to_f64.result ≡ of_int binary64 (to_signed 63 c.args.x) = c.nearest_i64_to_f64.ensures ∙ ap (of_int binary64) ((let it : to_z w64 (of_z w64 c.truncating_f64_to_i64-t.result) ≡ to_signed 63 c.args.x = to_z-of_z w64 c.truncating_f64_to_i64-t.result (record { sfits = c.truncating_f64_to_i64-t.type_inv })
-    ∙ c.truncating_f64_to_i64-t.ensures in it)) in it)) c.if-nearest_i64_to_f64-x.false in
+    let t = to_z-of_z w64 c.truncating_f64_to_i64-t.result (record { sfits = c.truncating_f64_to_i64-t.type_inv }) ∙ c.truncating_f64_to_i64-t.ensures in
+    let w = subst (λ (y : Float). eq y c.args.x ≡ false) ((c.nearest_i64_to_f64.ensures ∙ ap (of_int binary64) t)) c.if-nearest_i64_to_f64-x.false in
     sym (not_whole _ c.if-x.true c.if-x-2.true w)
 
 pub returns-else-x-2 : goal.returns-else-x-2

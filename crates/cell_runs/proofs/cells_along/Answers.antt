@@ -28,16 +28,18 @@ overflow_add-v c = let h = run_in c.loop-m.invariant.0 c.loop-m-test.true in ome
 
 pub cell_in_row-x-requires : goal.cell_in_row-x-requires
 cell_in_row-x-requires c =
-    let a = c.args in
-    let o = c.edition_in-o in
-    can_read a.f.now (layout_by a.l) (a.i + c.loop-m.m) a.j o.result o.ensures c.loop-m.c ((let it : (let a = c.args in c.loop-m.c ≡ column_by (answer_of a.f.now (layout_by a.l) (ask_column (a.i + c.loop-m.m)))) = c.loop-m.invariant.1.column (run_in c.loop-m.invariant.0 c.loop-m-test.true).1 in it)) c.row_in-row.result ((let it : (let a = c.args in let d = c.loop-m.c in c.row_in-row.result ≡ row_in a.f.now d.code d.row a.j a.l.n (start_of (numbers_of c.edition_in-o.result.e).tagged (layout_by a.l) 9 n_data)) = let a = c.args in
+    let column_here : (let a = c.args in c.loop-m.c ≡ column_by (answer_of a.f.now (layout_by a.l) (ask_column (a.i + c.loop-m.m)))) = c.loop-m.invariant.1.column (run_in c.loop-m.invariant.0 c.loop-m-test.true).1 in
+    let row_here : (let a = c.args in let d = c.loop-m.c in c.row_in-row.result ≡ row_in a.f.now d.code d.row a.j a.l.n (start_of (numbers_of c.edition_in-o.result.e).tagged (layout_by a.l) 9 n_data)) = let a = c.args in
     let d = c.column_of-c.result in
     let s = c.place_of-start in
     let t = c.tag_size-gap in
     let l = layout_by a.l in
     let e = numbers_of c.edition_in-o.result.e in
     let g = ap (λ (x : ℕ). x + t.result) s.ensures ∙ start_is e.tagged n_data 6 (place l 9) t.result refl t.ensures in
-    along_row c.loop-m.invariant.1 a.j a.l.n (start_of e.tagged l 9 n_data) (c.row_in-row.ensures ∙ ap (row_in a.f.now d.code d.row a.j a.l.n) g) in it)) (omega (arith, c.well_formed.0.0))
+    along_row c.loop-m.invariant.1 a.j a.l.n (start_of e.tagged l 9 n_data) (c.row_in-row.ensures ∙ ap (row_in a.f.now d.code d.row a.j a.l.n) g) in
+    let a = c.args in
+    let o = c.edition_in-o in
+    can_read a.f.now (layout_by a.l) (a.i + c.loop-m.m) a.j o.result o.ensures c.loop-m.c column_here c.row_in-row.result row_here (omega (arith, c.well_formed.0.0))
 
 pub overflow_mul-m : goal.overflow_mul-m
 overflow_mul-m c = let h = run_room c.loop-m.invariant.0 c.loop-m-test.true in omega (arith, h, c.well_formed.1.1.1.1.0)
@@ -56,54 +58,63 @@ overflow_add-m c = let h = run_room c.loop-m.invariant.0 c.loop-m-test.true in o
 
 pub column_after-c-requires : goal.column_after-c-requires
 column_after-c-requires c =
-    let a = c.args in
-    let o = c.edition_in-o in
-    let h = run_in c.loop-m.invariant.0 c.loop-m-test.true in
-    next_inside a.f.now (layout_by a.l) (a.i + c.loop-m.m) o.result o.ensures c.loop-m.c ((let it : (let a = c.args in c.loop-m.c ≡ column_by (answer_of a.f.now (layout_by a.l) (ask_column (a.i + c.loop-m.m)))) = c.loop-m.invariant.1.column (run_in c.loop-m.invariant.0 c.loop-m-test.true).1 in it)) (omega (arith, h)) (omega (arith, c.if-v-l.true)) (omega (arith, c.well_formed.0.0)) c.add_capped-types.result ((let it : (let a = c.args in c.add_capped-types.result ≡ capped (start_of (numbers_of c.edition_in-o.result.e).tagged (layout_by a.l) 2 n_variable_types)) = let s = c.place_of in
+    let column_here : (let a = c.args in c.loop-m.c ≡ column_by (answer_of a.f.now (layout_by a.l) (ask_column (a.i + c.loop-m.m)))) = c.loop-m.invariant.1.column (run_in c.loop-m.invariant.0 c.loop-m-test.true).1 in
+    let types_here : (let a = c.args in c.add_capped-types.result ≡ capped (start_of (numbers_of c.edition_in-o.result.e).tagged (layout_by a.l) 2 n_variable_types)) = let s = c.place_of in
     let t = c.tag_size in
     let l = layout_by c.args.l in
     let e = numbers_of c.edition_in-o.result.e in
-    c.add_capped-types.ensures ∙ ap capped (ap (λ (x : ℕ). x + t.result) s.ensures ∙ start_is e.tagged n_variable_types 16 (place l 2) t.result refl t.ensures) in it))
+    c.add_capped-types.ensures ∙ ap capped (ap (λ (x : ℕ). x + t.result) s.ensures ∙ start_is e.tagged n_variable_types 16 (place l 2) t.result refl t.ensures) in
+    let a = c.args in
+    let o = c.edition_in-o in
+    let h = run_in c.loop-m.invariant.0 c.loop-m-test.true in
+    next_inside a.f.now (layout_by a.l) (a.i + c.loop-m.m) o.result o.ensures c.loop-m.c column_here (omega (arith, h)) (omega (arith, c.if-v-l.true)) (omega (arith, c.well_formed.0.0)) c.add_capped-types.result types_here
 
 pub loop-m-preserved-then-v-l : goal.loop-m-preserved-then-v-l
 loop-m-preserved-then-v-l c =
-    let a = c.args in
-    let o = c.edition_in-o in
-    let h = run_in c.loop-m.invariant.0 c.loop-m-test.true in (
-      (let it : (let a = c.args in let l = c.loop-m in Run a.f.now (layout_by a.l) a.i a.j (λ (x : ℕ). ask_cell (a.i + x) a.j) a.i a.l.k a.out.now c.run_of-r.result.count (l.m + 1) (put_mid (l.m * 4) (length l.out - l.m * 4) l.out c.put_said.new.out)) = let a = c.args in
-    let o = c.edition_in-o in
-    let x = c.cell_in_row-x in
-    let S = said_in_lem a.f.now (layout_by a.l) (a.i + c.loop-m.m) a.j o.result o.ensures c.loop-m.c ((let it : (let a = c.args in c.loop-m.c ≡ column_by (answer_of a.f.now (layout_by a.l) (ask_column (a.i + c.loop-m.m)))) = c.loop-m.invariant.1.column (run_in c.loop-m.invariant.0 c.loop-m-test.true).1 in it)) c.row_in-row.result ((let it : (let a = c.args in let d = c.loop-m.c in c.row_in-row.result ≡ row_in a.f.now d.code d.row a.j a.l.n (start_of (numbers_of c.edition_in-o.result.e).tagged (layout_by a.l) 9 n_data)) = let a = c.args in
+    let column_here : (let a = c.args in c.loop-m.c ≡ column_by (answer_of a.f.now (layout_by a.l) (ask_column (a.i + c.loop-m.m)))) = c.loop-m.invariant.1.column (run_in c.loop-m.invariant.0 c.loop-m-test.true).1 in
+    let row_here : (let a = c.args in let d = c.loop-m.c in c.row_in-row.result ≡ row_in a.f.now d.code d.row a.j a.l.n (start_of (numbers_of c.edition_in-o.result.e).tagged (layout_by a.l) 9 n_data)) = let a = c.args in
     let d = c.column_of-c.result in
     let s = c.place_of-start in
     let t = c.tag_size-gap in
     let l = layout_by a.l in
     let e = numbers_of c.edition_in-o.result.e in
     let g = ap (λ (x : ℕ). x + t.result) s.ensures ∙ start_is e.tagged n_data 6 (place l 9) t.result refl t.ensures in
-    along_row c.loop-m.invariant.1 a.j a.l.n (start_of e.tagged l 9 n_data) (c.row_in-row.ensures ∙ ap (row_in a.f.now d.code d.row a.j a.l.n) g) in it)) (omega (arith, c.well_formed.0.0)) x.result x.ensures in
-    run_on c.loop-m.invariant.0 c.loop-m-test.true _ _ (cell_means a.f.now (layout_by a.l) (a.i + c.loop-m.m) a.j S) c.put_said.ensures in it),
-      along_next c.loop-m.invariant.1
-          (next_column_lem a.f.now (layout_by a.l) (a.i + c.loop-m.m) o.result o.ensures c.loop-m.c ((let it : (let a = c.args in c.loop-m.c ≡ column_by (answer_of a.f.now (layout_by a.l) (ask_column (a.i + c.loop-m.m)))) = c.loop-m.invariant.1.column (run_in c.loop-m.invariant.0 c.loop-m-test.true).1 in it)) (omega (arith, h)) (omega (arith, c.if-v-l.true)) (omega (arith, c.well_formed.0.0)) c.add_capped-types.result ((let it : (let a = c.args in c.add_capped-types.result ≡ capped (start_of (numbers_of c.edition_in-o.result.e).tagged (layout_by a.l) 2 n_variable_types)) = let s = c.place_of in
+    along_row c.loop-m.invariant.1 a.j a.l.n (start_of e.tagged l 9 n_data) (c.row_in-row.ensures ∙ ap (row_in a.f.now d.code d.row a.j a.l.n) g) in
+    let stored : (let a = c.args in let l = c.loop-m in Run a.f.now (layout_by a.l) a.i a.j (λ (x : ℕ). ask_cell (a.i + x) a.j) a.i a.l.k a.out.now c.run_of-r.result.count (l.m + 1) (put_mid (l.m * 4) (length l.out - l.m * 4) l.out c.put_said.new.out)) = let a = c.args in
+    let o = c.edition_in-o in
+    let x = c.cell_in_row-x in
+    let S = said_in_lem a.f.now (layout_by a.l) (a.i + c.loop-m.m) a.j o.result o.ensures c.loop-m.c column_here c.row_in-row.result row_here (omega (arith, c.well_formed.0.0)) x.result x.ensures in
+    run_on c.loop-m.invariant.0 c.loop-m-test.true _ _ (cell_means a.f.now (layout_by a.l) (a.i + c.loop-m.m) a.j S) c.put_said.ensures in
+    let types_here : (let a = c.args in c.add_capped-types.result ≡ capped (start_of (numbers_of c.edition_in-o.result.e).tagged (layout_by a.l) 2 n_variable_types)) = let s = c.place_of in
     let t = c.tag_size in
     let l = layout_by c.args.l in
     let e = numbers_of c.edition_in-o.result.e in
-    c.add_capped-types.ensures ∙ ap capped (ap (λ (x : ℕ). x + t.result) s.ensures ∙ start_is e.tagged n_variable_types 16 (place l 2) t.result refl t.ensures) in it)) _ c.column_after-c.ensures),
+    c.add_capped-types.ensures ∙ ap capped (ap (λ (x : ℕ). x + t.result) s.ensures ∙ start_is e.tagged n_variable_types 16 (place l 2) t.result refl t.ensures) in
+    let a = c.args in
+    let o = c.edition_in-o in
+    let h = run_in c.loop-m.invariant.0 c.loop-m-test.true in (
+      stored,
+      along_next c.loop-m.invariant.1
+          (next_column_lem a.f.now (layout_by a.l) (a.i + c.loop-m.m) o.result o.ensures c.loop-m.c column_here (omega (arith, h)) (omega (arith, c.if-v-l.true)) (omega (arith, c.well_formed.0.0)) c.add_capped-types.result types_here _ c.column_after-c.ensures),
     )
 
 pub loop-m-preserved : goal.loop-m-preserved
 loop-m-preserved c =
-    ((let it : (let a = c.args in let l = c.loop-m in Run a.f.now (layout_by a.l) a.i a.j (λ (x : ℕ). ask_cell (a.i + x) a.j) a.i a.l.k a.out.now c.run_of-r.result.count (l.m + 1) (put_mid (l.m * 4) (length l.out - l.m * 4) l.out c.put_said.new.out)) = let a = c.args in
-    let o = c.edition_in-o in
-    let x = c.cell_in_row-x in
-    let S = said_in_lem a.f.now (layout_by a.l) (a.i + c.loop-m.m) a.j o.result o.ensures c.loop-m.c ((let it : (let a = c.args in c.loop-m.c ≡ column_by (answer_of a.f.now (layout_by a.l) (ask_column (a.i + c.loop-m.m)))) = c.loop-m.invariant.1.column (run_in c.loop-m.invariant.0 c.loop-m-test.true).1 in it)) c.row_in-row.result ((let it : (let a = c.args in let d = c.loop-m.c in c.row_in-row.result ≡ row_in a.f.now d.code d.row a.j a.l.n (start_of (numbers_of c.edition_in-o.result.e).tagged (layout_by a.l) 9 n_data)) = let a = c.args in
+    let column_here : (let a = c.args in c.loop-m.c ≡ column_by (answer_of a.f.now (layout_by a.l) (ask_column (a.i + c.loop-m.m)))) = c.loop-m.invariant.1.column (run_in c.loop-m.invariant.0 c.loop-m-test.true).1 in
+    let row_here : (let a = c.args in let d = c.loop-m.c in c.row_in-row.result ≡ row_in a.f.now d.code d.row a.j a.l.n (start_of (numbers_of c.edition_in-o.result.e).tagged (layout_by a.l) 9 n_data)) = let a = c.args in
     let d = c.column_of-c.result in
     let s = c.place_of-start in
     let t = c.tag_size-gap in
     let l = layout_by a.l in
     let e = numbers_of c.edition_in-o.result.e in
     let g = ap (λ (x : ℕ). x + t.result) s.ensures ∙ start_is e.tagged n_data 6 (place l 9) t.result refl t.ensures in
-    along_row c.loop-m.invariant.1 a.j a.l.n (start_of e.tagged l 9 n_data) (c.row_in-row.ensures ∙ ap (row_in a.f.now d.code d.row a.j a.l.n) g) in it)) (omega (arith, c.well_formed.0.0)) x.result x.ensures in
-    run_on c.loop-m.invariant.0 c.loop-m-test.true _ _ (cell_means a.f.now (layout_by a.l) (a.i + c.loop-m.m) a.j S) c.put_said.ensures in it), along_end c.loop-m.invariant.1 (omega (arith, c.if-v-l.false)))
+    along_row c.loop-m.invariant.1 a.j a.l.n (start_of e.tagged l 9 n_data) (c.row_in-row.ensures ∙ ap (row_in a.f.now d.code d.row a.j a.l.n) g) in
+    let stored : (let a = c.args in let l = c.loop-m in Run a.f.now (layout_by a.l) a.i a.j (λ (x : ℕ). ask_cell (a.i + x) a.j) a.i a.l.k a.out.now c.run_of-r.result.count (l.m + 1) (put_mid (l.m * 4) (length l.out - l.m * 4) l.out c.put_said.new.out)) = let a = c.args in
+    let o = c.edition_in-o in
+    let x = c.cell_in_row-x in
+    let S = said_in_lem a.f.now (layout_by a.l) (a.i + c.loop-m.m) a.j o.result o.ensures c.loop-m.c column_here c.row_in-row.result row_here (omega (arith, c.well_formed.0.0)) x.result x.ensures in
+    run_on c.loop-m.invariant.0 c.loop-m-test.true _ _ (cell_means a.f.now (layout_by a.l) (a.i + c.loop-m.m) a.j S) c.put_said.ensures in
+    (stored, along_end c.loop-m.invariant.1 (omega (arith, c.if-v-l.false)))
 
 pub shape_of-out : goal.shape_of-out
 shape_of-out c = run_long c.loop-m.invariant.0

@@ -23,16 +23,17 @@ overflow_add-j c = let h = run_in c.loop-m.invariant c.loop-m-test.true in omega
 
 pub cell_in_row-x-requires : goal.cell_in_row-x-requires
 cell_in_row-x-requires c =
-    let a = c.args in
-    let o = c.edition_in-o in
-    let d = c.column_of-c in
-    can_read a.f.now (layout_by a.l) a.i (a.j + c.loop-m.m) o.result o.ensures d.result d.ensures c.row_in-row.result ((let it : (let a = c.args in let d = c.column_of-c.result in c.row_in-row.result ≡ row_in a.f.now d.code d.row (a.j + c.loop-m.m) a.l.n (start_of (numbers_of c.edition_in-o.result.e).tagged (layout_by a.l) 9 n_data)) = let a = c.args in
+    let row_here : (let a = c.args in let d = c.column_of-c.result in c.row_in-row.result ≡ row_in a.f.now d.code d.row (a.j + c.loop-m.m) a.l.n (start_of (numbers_of c.edition_in-o.result.e).tagged (layout_by a.l) 9 n_data)) = let a = c.args in
     let d = c.column_of-c.result in
     let s = c.place_of-start in
     let t = c.tag_size-gap in
     let e = numbers_of c.edition_in-o.result.e in
     let g = ap (λ (x : ℕ). x + t.result) s.ensures ∙ start_is e.tagged n_data 6 (place (layout_by a.l) 9) t.result refl t.ensures in
-    c.row_in-row.ensures ∙ ap (row_in a.f.now d.code d.row (a.j + c.loop-m.m) a.l.n) g in it)) (omega (arith, c.well_formed.0.0))
+    c.row_in-row.ensures ∙ ap (row_in a.f.now d.code d.row (a.j + c.loop-m.m) a.l.n) g in
+    let a = c.args in
+    let o = c.edition_in-o in
+    let d = c.column_of-c in
+    can_read a.f.now (layout_by a.l) a.i (a.j + c.loop-m.m) o.result o.ensures d.result d.ensures c.row_in-row.result row_here (omega (arith, c.well_formed.0.0))
 
 pub overflow_mul-m : goal.overflow_mul-m
 overflow_mul-m c = let h = run_room c.loop-m.invariant c.loop-m-test.true in omega (arith, h, c.well_formed.1.1.1.1.0)
@@ -51,17 +52,18 @@ overflow_add-m c = let h = run_room c.loop-m.invariant c.loop-m-test.true in ome
 
 pub loop-m-preserved : goal.loop-m-preserved
 loop-m-preserved c =
-    let a = c.args in
-    let o = c.edition_in-o in
-    let d = c.column_of-c in
-    let x = c.cell_in_row-x in
-    let S = said_in_lem a.f.now (layout_by a.l) a.i (a.j + c.loop-m.m) o.result o.ensures d.result d.ensures c.row_in-row.result ((let it : (let a = c.args in let d = c.column_of-c.result in c.row_in-row.result ≡ row_in a.f.now d.code d.row (a.j + c.loop-m.m) a.l.n (start_of (numbers_of c.edition_in-o.result.e).tagged (layout_by a.l) 9 n_data)) = let a = c.args in
+    let row_here : (let a = c.args in let d = c.column_of-c.result in c.row_in-row.result ≡ row_in a.f.now d.code d.row (a.j + c.loop-m.m) a.l.n (start_of (numbers_of c.edition_in-o.result.e).tagged (layout_by a.l) 9 n_data)) = let a = c.args in
     let d = c.column_of-c.result in
     let s = c.place_of-start in
     let t = c.tag_size-gap in
     let e = numbers_of c.edition_in-o.result.e in
     let g = ap (λ (x : ℕ). x + t.result) s.ensures ∙ start_is e.tagged n_data 6 (place (layout_by a.l) 9) t.result refl t.ensures in
-    c.row_in-row.ensures ∙ ap (row_in a.f.now d.code d.row (a.j + c.loop-m.m) a.l.n) g in it)) (omega (arith, c.well_formed.0.0)) x.result x.ensures in
+    c.row_in-row.ensures ∙ ap (row_in a.f.now d.code d.row (a.j + c.loop-m.m) a.l.n) g in
+    let a = c.args in
+    let o = c.edition_in-o in
+    let d = c.column_of-c in
+    let x = c.cell_in_row-x in
+    let S = said_in_lem a.f.now (layout_by a.l) a.i (a.j + c.loop-m.m) o.result o.ensures d.result d.ensures c.row_in-row.result row_here (omega (arith, c.well_formed.0.0)) x.result x.ensures in
     run_on c.loop-m.invariant c.loop-m-test.true _ _ (cell_means a.f.now (layout_by a.l) a.i (a.j + c.loop-m.m) S) c.put_said.ensures
 
 pub shape_of-out : goal.shape_of-out

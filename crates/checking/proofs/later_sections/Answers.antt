@@ -21,7 +21,7 @@ returns-then-x-ne0 c =
     let f = a.f.now in
     let t = read_times (type_code a.e.tagged o) a.k f a.types in
     let X = c.expansion_list-x.ensures in
-    rw c.no_rest.ensures (expansions_refused e o a.n t f a.p a.t8 X c.if-x-ne0.true)
+    rw c.no_rest.ensures (expansions_refused e o a.n t f a.p a.places X c.if-x-ne0.true)
 
 -- src/lib.rt:98:9
 pub returns-then-d-ne0 : goal.returns-then-d-ne0
@@ -34,7 +34,7 @@ returns-then-d-ne0 c =
     let X = c.expansion_list-x.ensures in
     let w = c.requires.4 in
     let D = c.data_list-d.ensures a.e.v_width a.e.o_width w.eight in
-    rw c.no_rest-then-d-ne0.ensures (data_refused e o a.n t f a.p a.t8 X c.if-x-ne0.false D c.if-d-ne0.true)
+    rw c.no_rest-then-d-ne0.ensures (data_refused e o a.n t f a.p a.places X c.if-x-ne0.false D c.if-d-ne0.true)
 
 -- src/lib.rt:104:15
 pub overflow_add-g : goal.overflow_add-g
@@ -81,7 +81,7 @@ returns-then-s-ne0 c =
     let q : x + c.tag_size.result ≡ x + _ = ap (λ (y : ℕ). x + y) (c.tag_size.ensures ∙ data_tag a.e.tagged) in
     let g : Frame = record { types = a.types; k = a.k; «data» = x + c.tag_size.result; n = a.n; tagged = a.e.tagged; msf = a.msf; vwidth = a.e.v_width; owidth = a.e.o_width; rwidth = a.e.record_width } in
     let S = data_longs f g x q c.requires.2 w.eight _ _ c.strl_list-s.ensures in
-    rw c.no_rest-then-s-ne0.ensures (strls_refused e o a.n t f a.p a.t8 X c.if-x-ne0.false D c.if-d-ne0.false S c.if-s-ne0.true)
+    rw c.no_rest-then-s-ne0.ensures (strls_refused e o a.n t f a.p a.places X c.if-x-ne0.false D c.if-d-ne0.false S c.if-s-ne0.true)
 
 -- src/lib.rt:119:9
 pub returns-then-b-ne0 : goal.returns-then-b-ne0
@@ -98,7 +98,7 @@ returns-then-b-ne0 c =
     let q : x + c.tag_size.result ≡ x + _ = ap (λ (y : ℕ). x + y) (c.tag_size.ensures ∙ data_tag a.e.tagged) in
     let g : Frame = record { types = a.types; k = a.k; «data» = x + c.tag_size.result; n = a.n; tagged = a.e.tagged; msf = a.msf; vwidth = a.e.v_width; owidth = a.e.o_width; rwidth = a.e.record_width } in
     let S = data_longs f g x q c.requires.2 w.eight _ _ c.strl_list-s.ensures in
-    rw c.no_rest-then-b-ne0.ensures (blocks_refused e o a.n t f a.p a.t8 X c.if-x-ne0.false D c.if-d-ne0.false S c.if-s-ne0.false c.label_list-b.ensures c.if-b-ne0.true)
+    rw c.no_rest-then-b-ne0.ensures (blocks_refused e o a.n t f a.p a.places X c.if-x-ne0.false D c.if-d-ne0.false S c.if-s-ne0.false c.label_list-b.ensures c.if-b-ne0.true)
 
 -- src/lib.rt:121:19
 pub overflow_sub-places : goal.overflow_sub-places
@@ -116,7 +116,7 @@ overflow_sub-places c =
     let g : Frame = record { types = a.types; k = a.k; «data» = x + c.tag_size.result; n = a.n; tagged = a.e.tagged; msf = a.msf; vwidth = a.e.v_width; owidth = a.e.o_width; rwidth = a.e.record_width } in
     let S = data_longs f g x q c.requires.2 w.eight _ _ c.strl_list-s.ensures in
     let u : Bytes f = λ i. omega (arith, c.shared_slice_known-1.given i) in
-    let z = end_room e o a.n t f a.p a.t8 X c.if-x-ne0.false D c.if-d-ne0.false S c.if-s-ne0.false c.label_list-b.ensures u c.if-b-ne0.false in
+    let z = end_room e o a.n t f a.p a.places X c.if-x-ne0.false D c.if-d-ne0.false S c.if-s-ne0.false c.label_list-b.ensures u c.if-b-ne0.false in
     omega (arith, c.tag_size-2.ensures, end_tag a.e.tagged)
 
 -- src/lib.rt:78:1
@@ -135,4 +135,4 @@ returns c =
     let g : Frame = record { types = a.types; k = a.k; «data» = x + c.tag_size.result; n = a.n; tagged = a.e.tagged; msf = a.msf; vwidth = a.e.v_width; owidth = a.e.o_width; rwidth = a.e.record_width } in
     let S = data_longs f g x q c.requires.2 w.eight _ _ c.strl_list-s.ensures in
     let u : Bytes f = λ i. omega (arith, c.shared_slice_known-1.given i) in
-    rest_met e o a.n t f a.p a.t8 X c.if-x-ne0.false D c.if-d-ne0.false S c.if-s-ne0.false c.label_list-b.ensures u c.if-b-ne0.false _ (ap (λ (y : ℕ). length f - y) (c.tag_size-2.ensures ∙ end_tag a.e.tagged))
+    rest_met e o a.n t f a.p a.places X c.if-x-ne0.false D c.if-d-ne0.false S c.if-s-ne0.false c.label_list-b.ensures u c.if-b-ne0.false _ (ap (λ (y : ℕ). length f - y) (c.tag_size-2.ensures ∙ end_tag a.e.tagged))

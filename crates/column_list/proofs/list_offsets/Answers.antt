@@ -23,24 +23,26 @@ bounds-t-m c = omega (arith, (listed_in c.loop-m.invariant c.loop-m-test.true).0
 
 pub column_after-c-requires : goal.column_after-c-requires
 column_after-c-requires c =
-    let o = c.edition_in-o in
-    let l = c.loop-m in
-    next_inside c.args.f.now (layout_by c.args.l) (l.m + 1) o.result o.ensures l.c (listed_column l.invariant c.loop-m-test.true) (omega arith) (omega (arith, c.if-v-l.true)) (omega (arith, c.well_formed.1.0)) c.add_capped-types.result ((let it : (let a = c.args in c.add_capped-types.result ≡ capped (start_of (numbers_of c.edition_in-o.result.e).tagged (layout_by a.l) 2 n_variable_types)) = let s = c.place_of in
+    let types_here : (let a = c.args in c.add_capped-types.result ≡ capped (start_of (numbers_of c.edition_in-o.result.e).tagged (layout_by a.l) 2 n_variable_types)) = let s = c.place_of in
     let t = c.tag_size in
     let l = layout_by c.args.l in
     let e = numbers_of c.edition_in-o.result.e in
-    c.add_capped-types.ensures ∙ ap capped (ap (λ (x : ℕ). x + t.result) s.ensures ∙ start_is e.tagged n_variable_types 16 (place l 2) t.result refl t.ensures) in it))
+    c.add_capped-types.ensures ∙ ap capped (ap (λ (x : ℕ). x + t.result) s.ensures ∙ start_is e.tagged n_variable_types 16 (place l 2) t.result refl t.ensures) in
+    let o = c.edition_in-o in
+    let l = c.loop-m in
+    next_inside c.args.f.now (layout_by c.args.l) (l.m + 1) o.result o.ensures l.c (listed_column l.invariant c.loop-m-test.true) (omega arith) (omega (arith, c.if-v-l.true)) (omega (arith, c.well_formed.1.0)) c.add_capped-types.result types_here
 
 pub loop-m-preserved-then-v-l : goal.loop-m-preserved-then-v-l
 loop-m-preserved-then-v-l c =
-    let o = c.edition_in-o in
-    let l = c.loop-m in
-    listed_next l.invariant c.loop-m-test.true
-    (next_column_lem c.args.f.now (layout_by c.args.l) (l.m + 1) o.result o.ensures l.c (listed_column l.invariant c.loop-m-test.true) (omega arith) (omega (arith, c.if-v-l.true)) (omega (arith, c.well_formed.1.0)) c.add_capped-types.result ((let it : (let a = c.args in c.add_capped-types.result ≡ capped (start_of (numbers_of c.edition_in-o.result.e).tagged (layout_by a.l) 2 n_variable_types)) = let s = c.place_of in
+    let types_here : (let a = c.args in c.add_capped-types.result ≡ capped (start_of (numbers_of c.edition_in-o.result.e).tagged (layout_by a.l) 2 n_variable_types)) = let s = c.place_of in
     let t = c.tag_size in
     let l = layout_by c.args.l in
     let e = numbers_of c.edition_in-o.result.e in
-    c.add_capped-types.ensures ∙ ap capped (ap (λ (x : ℕ). x + t.result) s.ensures ∙ start_is e.tagged n_variable_types 16 (place l 2) t.result refl t.ensures) in it)) _ c.column_after-c.ensures)
+    c.add_capped-types.ensures ∙ ap capped (ap (λ (x : ℕ). x + t.result) s.ensures ∙ start_is e.tagged n_variable_types 16 (place l 2) t.result refl t.ensures) in
+    let o = c.edition_in-o in
+    let l = c.loop-m in
+    listed_next l.invariant c.loop-m-test.true
+    (next_column_lem c.args.f.now (layout_by c.args.l) (l.m + 1) o.result o.ensures l.c (listed_column l.invariant c.loop-m-test.true) (omega arith) (omega (arith, c.if-v-l.true)) (omega (arith, c.well_formed.1.0)) c.add_capped-types.result types_here _ c.column_after-c.ensures)
 
 pub loop-m-preserved : goal.loop-m-preserved
 loop-m-preserved c = listed_last c.loop-m.invariant c.loop-m-test.true (omega (arith, c.if-v-l.false))

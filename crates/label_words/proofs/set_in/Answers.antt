@@ -18,83 +18,84 @@ use Rattle.label_words.proofs.set_in.Goals as goal
 
 pub returns-then-not-p : goal.returns-then-not-p
 returns-then-not-p c =
-    let a = c.args in
-    let f = a.f.now in
-    let l = layout_by a.t2 in
-    let e = numbers_of a.e in
-    let o = order_by a.msf in
-    let z = c.place_in-p.result in
-    set_as _ (refused 17) (set_said e o f l a.i) c.no_set.ensures (set_past e o f l a.i (place_past f _ z ((let it : (let a = c.args in let e = numbers_of a.e in c.place_in-p.result ≡ read_by (place_in a.f.now (field_place e.tagged (layout_by a.t2) 6 n_value_label_names e.name_width a.i))) = let a = c.args in
+    let field : (let a = c.args in let e = numbers_of a.e in c.place_in-p.result ≡ read_by (place_in a.f.now (field_place e.tagged (layout_by a.l) 6 n_value_label_names e.name_width a.i))) = let a = c.args in
     let e = numbers_of a.e in
     c.place_in-p.ensures
     ∙ ap (λ (x : ℕ). read_by (place_in a.f.now x))
-    (list_place e.tagged n_value_label_names 19 (get_or a.t2.places 6 0) c.tag_size.result c.less.result (a.i - 1) e.name_width refl c.tag_size.ensures c.less.ensures.0) in it)) (not-true z.there c.if-not-p.true)))
+    (list_place e.tagged n_value_label_names 19 (get_or a.l.places 6 0) c.tag_size.result c.less.result (a.i - 1) e.name_width refl c.tag_size.ensures c.less.ensures.0) in
+    let a = c.args in
+    let f = a.f.now in
+    let l = layout_by a.l in
+    let e = numbers_of a.e in
+    let o = order_by a.msf in
+    let z = c.place_in-p.result in
+    set_as _ (refused 17) (set_said e o f l a.i) c.no_set.ensures (set_past e o f l a.i (place_past f _ z field (not-true z.there c.if-not-p.true)))
 
 pub returns-then-not-n : goal.returns-then-not-n
 returns-then-not-n c =
+    let field : (let a = c.args in let e = numbers_of a.e in c.place_in-p.result ≡ read_by (place_in a.f.now (field_place e.tagged (layout_by a.l) 6 n_value_label_names e.name_width a.i))) = let a = c.args in
+    let e = numbers_of a.e in
+    c.place_in-p.ensures
+    ∙ ap (λ (x : ℕ). read_by (place_in a.f.now x))
+    (list_place e.tagged n_value_label_names 19 (get_or a.l.places 6 0) c.tag_size.result c.less.result (a.i - 1) e.name_width refl c.tag_size.ensures c.less.ensures.0) in
+    let named : (let a = c.args in let e = numbers_of a.e in let p = field_place e.tagged (layout_by a.l) 6 n_value_label_names e.name_width a.i in (c.place_in-p.result.value ≡ p) × (c.text_in-n.result ≡ read_by (length_in e.name_width a.f.now p))) = let a = c.args in
+    let e = numbers_of a.e in
+    let p = field_place e.tagged (layout_by a.l) 6 n_value_label_names e.name_width a.i in
+    let z = c.place_in-p.result in
+    let v = place_is a.f.now p z field (not-false z.there c.if-not-p.false) in
+    (v, c.text_in-n.ensures ∙ ap (λ (x : ℕ). read_by (length_in e.name_width a.f.now x)) v) in
     let a = c.args in
     let f = a.f.now in
-    let l = layout_by a.t2 in
+    let l = layout_by a.l in
     let e = numbers_of a.e in
     let o = order_by a.msf in
     let t = c.text_in-n.result in
-    set_as _ (refused 17) (set_said e o f l a.i) c.no_set-then-not-n.ensures (set_none e o f l a.i (read_none t _ ((let it : (let a = c.args in let e = numbers_of a.e in let p = field_place e.tagged (layout_by a.t2) 6 n_value_label_names e.name_width a.i in (c.place_in-p.result.value ≡ p) × (c.text_in-n.result ≡ read_by (length_in e.name_width a.f.now p))) = let a = c.args in
-    let e = numbers_of a.e in
-    let p = field_place e.tagged (layout_by a.t2) 6 n_value_label_names e.name_width a.i in
-    let z = c.place_in-p.result in
-    let v = place_is a.f.now p z ((let it : (let a = c.args in let e = numbers_of a.e in c.place_in-p.result ≡ read_by (place_in a.f.now (field_place e.tagged (layout_by a.t2) 6 n_value_label_names e.name_width a.i))) = let a = c.args in
-    let e = numbers_of a.e in
-    c.place_in-p.ensures
-    ∙ ap (λ (x : ℕ). read_by (place_in a.f.now x))
-    (list_place e.tagged n_value_label_names 19 (get_or a.t2.places 6 0) c.tag_size.result c.less.result (a.i - 1) e.name_width refl c.tag_size.ensures c.less.ensures.0) in it)) (not-false z.there c.if-not-p.false) in
-    (v, c.text_in-n.ensures ∙ ap (λ (x : ℕ). read_by (length_in e.name_width a.f.now x)) v) in it)).1 (not-true t.there c.if-not-n.true)))
+    set_as _ (refused 17) (set_said e o f l a.i) c.no_set-then-not-n.ensures (set_none e o f l a.i (read_none t _ named.1 (not-true t.there c.if-not-n.true)))
 
 pub returns-then-n-eq0 : goal.returns-then-n-eq0
 returns-then-n-eq0 c =
-    let a = c.args in
-    let f = a.f.now in
-    let l = layout_by a.t2 in
-    let e = numbers_of a.e in
-    let o = order_by a.msf in
-    set_as _ (labels unlabelled) (set_said e o f l a.i) c.no_set-then-n-eq0.ensures (set_empty e o f l a.i _ ((let it : (let a = c.args in let e = numbers_of a.e in length_in e.name_width a.f.now (field_place e.tagged (layout_by a.t2) 6 n_value_label_names e.name_width a.i) ≡ got c.text_in-n.result.value) = let t = c.text_in-n.result in read_got t _ ((let it : (let a = c.args in let e = numbers_of a.e in let p = field_place e.tagged (layout_by a.t2) 6 n_value_label_names e.name_width a.i in (c.place_in-p.result.value ≡ p) × (c.text_in-n.result ≡ read_by (length_in e.name_width a.f.now p))) = let a = c.args in
-    let e = numbers_of a.e in
-    let p = field_place e.tagged (layout_by a.t2) 6 n_value_label_names e.name_width a.i in
-    let z = c.place_in-p.result in
-    let v = place_is a.f.now p z ((let it : (let a = c.args in let e = numbers_of a.e in c.place_in-p.result ≡ read_by (place_in a.f.now (field_place e.tagged (layout_by a.t2) 6 n_value_label_names e.name_width a.i))) = let a = c.args in
+    let field : (let a = c.args in let e = numbers_of a.e in c.place_in-p.result ≡ read_by (place_in a.f.now (field_place e.tagged (layout_by a.l) 6 n_value_label_names e.name_width a.i))) = let a = c.args in
     let e = numbers_of a.e in
     c.place_in-p.ensures
     ∙ ap (λ (x : ℕ). read_by (place_in a.f.now x))
-    (list_place e.tagged n_value_label_names 19 (get_or a.t2.places 6 0) c.tag_size.result c.less.result (a.i - 1) e.name_width refl c.tag_size.ensures c.less.ensures.0) in it)) (not-false z.there c.if-not-p.false) in
-    (v, c.text_in-n.ensures ∙ ap (λ (x : ℕ). read_by (length_in e.name_width a.f.now x)) v) in it)).1 (not-false t.there c.if-not-n.false) in it)) c.if-n-eq0.true)
+    (list_place e.tagged n_value_label_names 19 (get_or a.l.places 6 0) c.tag_size.result c.less.result (a.i - 1) e.name_width refl c.tag_size.ensures c.less.ensures.0) in
+    let named : (let a = c.args in let e = numbers_of a.e in let p = field_place e.tagged (layout_by a.l) 6 n_value_label_names e.name_width a.i in (c.place_in-p.result.value ≡ p) × (c.text_in-n.result ≡ read_by (length_in e.name_width a.f.now p))) = let a = c.args in
+    let e = numbers_of a.e in
+    let p = field_place e.tagged (layout_by a.l) 6 n_value_label_names e.name_width a.i in
+    let z = c.place_in-p.result in
+    let v = place_is a.f.now p z field (not-false z.there c.if-not-p.false) in
+    (v, c.text_in-n.ensures ∙ ap (λ (x : ℕ). read_by (length_in e.name_width a.f.now x)) v) in
+    let long : (let a = c.args in let e = numbers_of a.e in length_in e.name_width a.f.now (field_place e.tagged (layout_by a.l) 6 n_value_label_names e.name_width a.i) ≡ got c.text_in-n.result.value) = let t = c.text_in-n.result in read_got t _ named.1 (not-false t.there c.if-not-n.false) in
+    let a = c.args in
+    let f = a.f.now in
+    let l = layout_by a.l in
+    let e = numbers_of a.e in
+    let o = order_by a.msf in
+    set_as _ (labels unlabelled) (set_said e o f l a.i) c.no_set-then-n-eq0.ensures (set_empty e o f l a.i _ long c.if-n-eq0.true)
 
 pub returns-then-end-l : goal.returns-then-end-l
 returns-then-end-l c =
+    let field : (let a = c.args in let e = numbers_of a.e in c.place_in-p.result ≡ read_by (place_in a.f.now (field_place e.tagged (layout_by a.l) 6 n_value_label_names e.name_width a.i))) = let a = c.args in
+    let e = numbers_of a.e in
+    c.place_in-p.ensures
+    ∙ ap (λ (x : ℕ). read_by (place_in a.f.now x))
+    (list_place e.tagged n_value_label_names 19 (get_or a.l.places 6 0) c.tag_size.result c.less.result (a.i - 1) e.name_width refl c.tag_size.ensures c.less.ensures.0) in
+    let named : (let a = c.args in let e = numbers_of a.e in let p = field_place e.tagged (layout_by a.l) 6 n_value_label_names e.name_width a.i in (c.place_in-p.result.value ≡ p) × (c.text_in-n.result ≡ read_by (length_in e.name_width a.f.now p))) = let a = c.args in
+    let e = numbers_of a.e in
+    let p = field_place e.tagged (layout_by a.l) 6 n_value_label_names e.name_width a.i in
+    let z = c.place_in-p.result in
+    let v = place_is a.f.now p z field (not-false z.there c.if-not-p.false) in
+    (v, c.text_in-n.ensures ∙ ap (λ (x : ℕ). read_by (length_in e.name_width a.f.now x)) v) in
+    let long : (let a = c.args in let e = numbers_of a.e in length_in e.name_width a.f.now (field_place e.tagged (layout_by a.l) 6 n_value_label_names e.name_width a.i) ≡ got c.text_in-n.result.value) = let t = c.text_in-n.result in read_got t _ named.1 (not-false t.there c.if-not-n.false) in
+    let ended : (let a = c.args in c.less-end.result ≡ end_of (numbers_of a.e).tagged (layout_by a.l) 11 n_value_labels) = let a = c.args in
+    end_is (numbers_of a.e).tagged n_value_labels 15 (get_or a.l.places 12 0) c.tag_size-2.result c.less-end.result refl c.tag_size-2.ensures c.less-end.ensures.0 in
     let a = c.args in
     let f = a.f.now in
-    let l = layout_by a.t2 in
+    let l = layout_by a.l in
     let e = numbers_of a.e in
     let o = order_by a.msf in
     set_as _ (labels unlabelled) (set_said e o f l a.i) c.no_set-then-end-l.ensures
-    (set_over e o f l a.i _ ((let it : (let a = c.args in let e = numbers_of a.e in length_in e.name_width a.f.now (field_place e.tagged (layout_by a.t2) 6 n_value_label_names e.name_width a.i) ≡ got c.text_in-n.result.value) = let t = c.text_in-n.result in read_got t _ ((let it : (let a = c.args in let e = numbers_of a.e in let p = field_place e.tagged (layout_by a.t2) 6 n_value_label_names e.name_width a.i in (c.place_in-p.result.value ≡ p) × (c.text_in-n.result ≡ read_by (length_in e.name_width a.f.now p))) = let a = c.args in
-    let e = numbers_of a.e in
-    let p = field_place e.tagged (layout_by a.t2) 6 n_value_label_names e.name_width a.i in
-    let z = c.place_in-p.result in
-    let v = place_is a.f.now p z ((let it : (let a = c.args in let e = numbers_of a.e in c.place_in-p.result ≡ read_by (place_in a.f.now (field_place e.tagged (layout_by a.t2) 6 n_value_label_names e.name_width a.i))) = let a = c.args in
-    let e = numbers_of a.e in
-    c.place_in-p.ensures
-    ∙ ap (λ (x : ℕ). read_by (place_in a.f.now x))
-    (list_place e.tagged n_value_label_names 19 (get_or a.t2.places 6 0) c.tag_size.result c.less.result (a.i - 1) e.name_width refl c.tag_size.ensures c.less.ensures.0) in it)) (not-false z.there c.if-not-p.false) in
-    (v, c.text_in-n.ensures ∙ ap (λ (x : ℕ). read_by (length_in e.name_width a.f.now x)) v) in it)).1 (not-false t.there c.if-not-n.false) in it)) c.if-n-eq0.false _ (start_of e.tagged l 11 n_value_labels) _ ((let it : (let a = c.args in let e = numbers_of a.e in let p = field_place e.tagged (layout_by a.t2) 6 n_value_label_names e.name_width a.i in (c.place_in-p.result.value ≡ p) × (c.text_in-n.result ≡ read_by (length_in e.name_width a.f.now p))) = let a = c.args in
-    let e = numbers_of a.e in
-    let p = field_place e.tagged (layout_by a.t2) 6 n_value_label_names e.name_width a.i in
-    let z = c.place_in-p.result in
-    let v = place_is a.f.now p z ((let it : (let a = c.args in let e = numbers_of a.e in c.place_in-p.result ≡ read_by (place_in a.f.now (field_place e.tagged (layout_by a.t2) 6 n_value_label_names e.name_width a.i))) = let a = c.args in
-    let e = numbers_of a.e in
-    c.place_in-p.ensures
-    ∙ ap (λ (x : ℕ). read_by (place_in a.f.now x))
-    (list_place e.tagged n_value_label_names 19 (get_or a.t2.places 6 0) c.tag_size.result c.less.result (a.i - 1) e.name_width refl c.tag_size.ensures c.less.ensures.0) in it)) (not-false z.there c.if-not-p.false) in
-    (v, c.text_in-n.ensures ∙ ap (λ (x : ℕ). read_by (length_in e.name_width a.f.now x)) v) in it)).0 refl ((let it : (let a = c.args in c.less-end.result ≡ end_of (numbers_of a.e).tagged (layout_by a.t2) 11 n_value_labels) = let a = c.args in
-    end_is (numbers_of a.e).tagged n_value_labels 15 (get_or a.t2.places 12 0) c.tag_size-2.result c.less-end.result refl c.tag_size-2.ensures c.less-end.ensures.0 in it)) (omega (arith, c.if-end-l.true)))
+    (set_over e o f l a.i _ long c.if-n-eq0.false _ (start_of e.tagged l 11 n_value_labels) _ named.0 refl ended (omega (arith, c.if-end-l.true)))
 
 pub overflow_add-start : goal.overflow_add-start
 overflow_add-start c =
@@ -104,54 +105,43 @@ overflow_add-start c =
 
 pub find_block-requires : goal.find_block-requires
 find_block-requires c =
+    let field : (let a = c.args in let e = numbers_of a.e in c.place_in-p.result ≡ read_by (place_in a.f.now (field_place e.tagged (layout_by a.l) 6 n_value_label_names e.name_width a.i))) = let a = c.args in
+    let e = numbers_of a.e in
+    c.place_in-p.ensures
+    ∙ ap (λ (x : ℕ). read_by (place_in a.f.now x))
+    (list_place e.tagged n_value_label_names 19 (get_or a.l.places 6 0) c.tag_size.result c.less.result (a.i - 1) e.name_width refl c.tag_size.ensures c.less.ensures.0) in
+    let named : (let a = c.args in let e = numbers_of a.e in let p = field_place e.tagged (layout_by a.l) 6 n_value_label_names e.name_width a.i in (c.place_in-p.result.value ≡ p) × (c.text_in-n.result ≡ read_by (length_in e.name_width a.f.now p))) = let a = c.args in
+    let e = numbers_of a.e in
+    let p = field_place e.tagged (layout_by a.l) 6 n_value_label_names e.name_width a.i in
+    let z = c.place_in-p.result in
+    let v = place_is a.f.now p z field (not-false z.there c.if-not-p.false) in
+    (v, c.text_in-n.ensures ∙ ap (λ (x : ℕ). read_by (length_in e.name_width a.f.now x)) v) in
+    let long : (let a = c.args in let e = numbers_of a.e in length_in e.name_width a.f.now (field_place e.tagged (layout_by a.l) 6 n_value_label_names e.name_width a.i) ≡ got c.text_in-n.result.value) = let t = c.text_in-n.result in read_got t _ named.1 (not-false t.there c.if-not-n.false) in
     let a = c.args in
-    let n = set_inside (numbers_of a.e) (order_by a.msf) a.f.now (layout_by a.t2) a.i _ ((let it : (let a = c.args in let e = numbers_of a.e in length_in e.name_width a.f.now (field_place e.tagged (layout_by a.t2) 6 n_value_label_names e.name_width a.i) ≡ got c.text_in-n.result.value) = let t = c.text_in-n.result in read_got t _ ((let it : (let a = c.args in let e = numbers_of a.e in let p = field_place e.tagged (layout_by a.t2) 6 n_value_label_names e.name_width a.i in (c.place_in-p.result.value ≡ p) × (c.text_in-n.result ≡ read_by (length_in e.name_width a.f.now p))) = let a = c.args in
-    let e = numbers_of a.e in
-    let p = field_place e.tagged (layout_by a.t2) 6 n_value_label_names e.name_width a.i in
-    let z = c.place_in-p.result in
-    let v = place_is a.f.now p z ((let it : (let a = c.args in let e = numbers_of a.e in c.place_in-p.result ≡ read_by (place_in a.f.now (field_place e.tagged (layout_by a.t2) 6 n_value_label_names e.name_width a.i))) = let a = c.args in
-    let e = numbers_of a.e in
-    c.place_in-p.ensures
-    ∙ ap (λ (x : ℕ). read_by (place_in a.f.now x))
-    (list_place e.tagged n_value_label_names 19 (get_or a.t2.places 6 0) c.tag_size.result c.less.result (a.i - 1) e.name_width refl c.tag_size.ensures c.less.ensures.0) in it)) (not-false z.there c.if-not-p.false) in
-    (v, c.text_in-n.ensures ∙ ap (λ (x : ℕ). read_by (length_in e.name_width a.f.now x)) v) in it)).1 (not-false t.there c.if-not-n.false) in it)) in
-    (omega (arith, n, ((let it : (let a = c.args in let e = numbers_of a.e in let p = field_place e.tagged (layout_by a.t2) 6 n_value_label_names e.name_width a.i in (c.place_in-p.result.value ≡ p) × (c.text_in-n.result ≡ read_by (length_in e.name_width a.f.now p))) = let a = c.args in
-    let e = numbers_of a.e in
-    let p = field_place e.tagged (layout_by a.t2) 6 n_value_label_names e.name_width a.i in
-    let z = c.place_in-p.result in
-    let v = place_is a.f.now p z ((let it : (let a = c.args in let e = numbers_of a.e in c.place_in-p.result ≡ read_by (place_in a.f.now (field_place e.tagged (layout_by a.t2) 6 n_value_label_names e.name_width a.i))) = let a = c.args in
-    let e = numbers_of a.e in
-    c.place_in-p.ensures
-    ∙ ap (λ (x : ℕ). read_by (place_in a.f.now x))
-    (list_place e.tagged n_value_label_names 19 (get_or a.t2.places 6 0) c.tag_size.result c.less.result (a.i - 1) e.name_width refl c.tag_size.ensures c.less.ensures.0) in it)) (not-false z.there c.if-not-p.false) in
-    (v, c.text_in-n.ensures ∙ ap (λ (x : ℕ). read_by (length_in e.name_width a.f.now x)) v) in it)).0), c.requires)
+    let n = set_inside (numbers_of a.e) (order_by a.msf) a.f.now (layout_by a.l) a.i _ long in
+    (omega (arith, n, named.0), c.requires)
 
 pub returns : goal.returns
 returns c =
+    let field : (let a = c.args in let e = numbers_of a.e in c.place_in-p.result ≡ read_by (place_in a.f.now (field_place e.tagged (layout_by a.l) 6 n_value_label_names e.name_width a.i))) = let a = c.args in
+    let e = numbers_of a.e in
+    c.place_in-p.ensures
+    ∙ ap (λ (x : ℕ). read_by (place_in a.f.now x))
+    (list_place e.tagged n_value_label_names 19 (get_or a.l.places 6 0) c.tag_size.result c.less.result (a.i - 1) e.name_width refl c.tag_size.ensures c.less.ensures.0) in
+    let named : (let a = c.args in let e = numbers_of a.e in let p = field_place e.tagged (layout_by a.l) 6 n_value_label_names e.name_width a.i in (c.place_in-p.result.value ≡ p) × (c.text_in-n.result ≡ read_by (length_in e.name_width a.f.now p))) = let a = c.args in
+    let e = numbers_of a.e in
+    let p = field_place e.tagged (layout_by a.l) 6 n_value_label_names e.name_width a.i in
+    let z = c.place_in-p.result in
+    let v = place_is a.f.now p z field (not-false z.there c.if-not-p.false) in
+    (v, c.text_in-n.ensures ∙ ap (λ (x : ℕ). read_by (length_in e.name_width a.f.now x)) v) in
+    let long : (let a = c.args in let e = numbers_of a.e in length_in e.name_width a.f.now (field_place e.tagged (layout_by a.l) 6 n_value_label_names e.name_width a.i) ≡ got c.text_in-n.result.value) = let t = c.text_in-n.result in read_got t _ named.1 (not-false t.there c.if-not-n.false) in
+    let ended : (let a = c.args in c.less-end.result ≡ end_of (numbers_of a.e).tagged (layout_by a.l) 11 n_value_labels) = let a = c.args in
+    end_is (numbers_of a.e).tagged n_value_labels 15 (get_or a.l.places 12 0) c.tag_size-2.result c.less-end.result refl c.tag_size-2.ensures c.less-end.ensures.0 in
     let a = c.args in
     let f = a.f.now in
-    let l = layout_by a.t2 in
+    let l = layout_by a.l in
     let e = numbers_of a.e in
     let o = order_by a.msf in
-    let s = get_or a.t2.places 11 0 in
+    let s = get_or a.l.places 11 0 in
     let S = start_is e.tagged n_value_labels 14 s c.tag_size-3.result refl c.tag_size-3.ensures in
-    set_as _ _ (set_said e o f l a.i) c.find_block.ensures (set_walk e o f l a.i _ ((let it : (let a = c.args in let e = numbers_of a.e in length_in e.name_width a.f.now (field_place e.tagged (layout_by a.t2) 6 n_value_label_names e.name_width a.i) ≡ got c.text_in-n.result.value) = let t = c.text_in-n.result in read_got t _ ((let it : (let a = c.args in let e = numbers_of a.e in let p = field_place e.tagged (layout_by a.t2) 6 n_value_label_names e.name_width a.i in (c.place_in-p.result.value ≡ p) × (c.text_in-n.result ≡ read_by (length_in e.name_width a.f.now p))) = let a = c.args in
-    let e = numbers_of a.e in
-    let p = field_place e.tagged (layout_by a.t2) 6 n_value_label_names e.name_width a.i in
-    let z = c.place_in-p.result in
-    let v = place_is a.f.now p z ((let it : (let a = c.args in let e = numbers_of a.e in c.place_in-p.result ≡ read_by (place_in a.f.now (field_place e.tagged (layout_by a.t2) 6 n_value_label_names e.name_width a.i))) = let a = c.args in
-    let e = numbers_of a.e in
-    c.place_in-p.ensures
-    ∙ ap (λ (x : ℕ). read_by (place_in a.f.now x))
-    (list_place e.tagged n_value_label_names 19 (get_or a.t2.places 6 0) c.tag_size.result c.less.result (a.i - 1) e.name_width refl c.tag_size.ensures c.less.ensures.0) in it)) (not-false z.there c.if-not-p.false) in
-    (v, c.text_in-n.ensures ∙ ap (λ (x : ℕ). read_by (length_in e.name_width a.f.now x)) v) in it)).1 (not-false t.there c.if-not-n.false) in it)) c.if-n-eq0.false _ (s + c.tag_size-3.result) _ ((let it : (let a = c.args in let e = numbers_of a.e in let p = field_place e.tagged (layout_by a.t2) 6 n_value_label_names e.name_width a.i in (c.place_in-p.result.value ≡ p) × (c.text_in-n.result ≡ read_by (length_in e.name_width a.f.now p))) = let a = c.args in
-    let e = numbers_of a.e in
-    let p = field_place e.tagged (layout_by a.t2) 6 n_value_label_names e.name_width a.i in
-    let z = c.place_in-p.result in
-    let v = place_is a.f.now p z ((let it : (let a = c.args in let e = numbers_of a.e in c.place_in-p.result ≡ read_by (place_in a.f.now (field_place e.tagged (layout_by a.t2) 6 n_value_label_names e.name_width a.i))) = let a = c.args in
-    let e = numbers_of a.e in
-    c.place_in-p.ensures
-    ∙ ap (λ (x : ℕ). read_by (place_in a.f.now x))
-    (list_place e.tagged n_value_label_names 19 (get_or a.t2.places 6 0) c.tag_size.result c.less.result (a.i - 1) e.name_width refl c.tag_size.ensures c.less.ensures.0) in it)) (not-false z.there c.if-not-p.false) in
-    (v, c.text_in-n.ensures ∙ ap (λ (x : ℕ). read_by (length_in e.name_width a.f.now x)) v) in it)).0 S ((let it : (let a = c.args in c.less-end.result ≡ end_of (numbers_of a.e).tagged (layout_by a.t2) 11 n_value_labels) = let a = c.args in
-    end_is (numbers_of a.e).tagged n_value_labels 15 (get_or a.t2.places 12 0) c.tag_size-2.result c.less-end.result refl c.tag_size-2.ensures c.less-end.ensures.0 in it)))
+    set_as _ _ (set_said e o f l a.i) c.find_block.ensures (set_walk e o f l a.i _ long c.if-n-eq0.false _ (s + c.tag_size-3.result) _ named.0 S ended)

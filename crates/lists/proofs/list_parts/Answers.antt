@@ -10,7 +10,7 @@ returns-then-t-ne0 c =
     let e = numbers_of a.e in
     let o = order_by a.msf in
     let f = a.f.now in
-    rw c.refused.ensures (types_refused e o a.k f a.p a.t6 c.type_list-t.ensures c.if-t-ne0.true)
+    rw c.refused.ensures (types_refused e o a.k f a.p a.places c.type_list-t.ensures c.if-t-ne0.true)
 
 -- src/lib.rt:84:9
 pub returns-then-n-ne0 : goal.returns-then-n-ne0
@@ -19,7 +19,7 @@ returns-then-n-ne0 c =
     let e = numbers_of a.e in
     let o = order_by a.msf in
     let f = a.f.now in
-    rw c.refused-then-n-ne0.ensures (names_refused e o a.k f a.p a.t6 c.type_list-t.ensures c.if-t-ne0.false c.name_list-n.ensures c.if-n-ne0.true)
+    rw c.refused-then-n-ne0.ensures (names_refused e o a.k f a.p a.places c.type_list-t.ensures c.if-t-ne0.false c.name_list-n.ensures c.if-n-ne0.true)
 
 -- src/lib.rt:89:9
 pub returns-then-s-ne0 : goal.returns-then-s-ne0
@@ -28,7 +28,7 @@ returns-then-s-ne0 c =
     let e = numbers_of a.e in
     let o = order_by a.msf in
     let f = a.f.now in
-    rw c.refused-then-s-ne0.ensures (sort_refused e o a.k f a.p a.t6 c.type_list-t.ensures c.if-t-ne0.false c.name_list-n.ensures c.if-n-ne0.false c.sort_list-s.ensures c.if-s-ne0.true)
+    rw c.refused-then-s-ne0.ensures (sort_refused e o a.k f a.p a.places c.type_list-t.ensures c.if-t-ne0.false c.name_list-n.ensures c.if-n-ne0.false c.sort_list-s.ensures c.if-s-ne0.true)
 
 -- src/lib.rt:94:9
 pub returns-then-d-ne0 : goal.returns-then-d-ne0
@@ -37,7 +37,7 @@ returns-then-d-ne0 c =
     let e = numbers_of a.e in
     let o = order_by a.msf in
     let f = a.f.now in
-    rw c.refused-then-d-ne0.ensures (formats_refused e o a.k f a.p a.t6 c.type_list-t.ensures c.if-t-ne0.false c.name_list-n.ensures c.if-n-ne0.false c.sort_list-s.ensures c.if-s-ne0.false c.format_list-d.ensures c.if-d-ne0.true)
+    rw c.refused-then-d-ne0.ensures (formats_refused e o a.k f a.p a.places c.type_list-t.ensures c.if-t-ne0.false c.name_list-n.ensures c.if-n-ne0.false c.sort_list-s.ensures c.if-s-ne0.false c.format_list-d.ensures c.if-d-ne0.true)
 
 -- src/lib.rt:97:9
 pub set_list-v-requires : goal.set_list-v-requires
@@ -51,7 +51,7 @@ returns-then-v-ne0 c =
     let e = numbers_of a.e in
     let o = order_by a.msf in
     let f = a.f.now in
-    rw c.refused-then-v-ne0.ensures (sets_refused e o a.k f a.p a.t6 c.type_list-t.ensures c.if-t-ne0.false c.name_list-n.ensures c.if-n-ne0.false c.sort_list-s.ensures c.if-s-ne0.false c.format_list-d.ensures c.if-d-ne0.false c.set_list-v.ensures c.if-v-ne0.true)
+    rw c.refused-then-v-ne0.ensures (sets_refused e o a.k f a.p a.places c.type_list-t.ensures c.if-t-ne0.false c.name_list-n.ensures c.if-n-ne0.false c.sort_list-s.ensures c.if-s-ne0.false c.format_list-d.ensures c.if-d-ne0.false c.set_list-v.ensures c.if-v-ne0.true)
 
 -- src/lib.rt:102:9
 pub label_list-l-requires : goal.label_list-l-requires
@@ -65,7 +65,7 @@ returns-then-l-ne0 c =
     let e = numbers_of a.e in
     let o = order_by a.msf in
     let f = a.f.now in
-    rw c.refused-then-l-ne0.ensures (labels_refused e o a.k f a.p a.t6 c.type_list-t.ensures c.if-t-ne0.false c.name_list-n.ensures c.if-n-ne0.false c.sort_list-s.ensures c.if-s-ne0.false c.format_list-d.ensures c.if-d-ne0.false c.set_list-v.ensures c.if-v-ne0.false c.label_list-l.ensures c.if-l-ne0.true)
+    rw c.refused-then-l-ne0.ensures (labels_refused e o a.k f a.p a.places c.type_list-t.ensures c.if-t-ne0.false c.name_list-n.ensures c.if-n-ne0.false c.sort_list-s.ensures c.if-s-ne0.false c.format_list-d.ensures c.if-d-ne0.false c.set_list-v.ensures c.if-v-ne0.false c.label_list-l.ensures c.if-l-ne0.true)
 
 -- src/lib.rt:66:1
 pub returns : goal.returns
@@ -74,4 +74,4 @@ returns c =
     let e = numbers_of a.e in
     let o = order_by a.msf in
     let f = a.f.now in
-    lists_met e o a.k f a.p a.t6 c.type_list-t.ensures c.if-t-ne0.false c.name_list-n.ensures c.if-n-ne0.false c.sort_list-s.ensures c.if-s-ne0.false c.format_list-d.ensures c.if-d-ne0.false c.set_list-v.ensures c.if-v-ne0.false c.label_list-l.ensures c.if-l-ne0.false
+    lists_met e o a.k f a.p a.places c.type_list-t.ensures c.if-t-ne0.false c.name_list-n.ensures c.if-n-ne0.false c.sort_list-s.ensures c.if-s-ne0.false c.format_list-d.ensures c.if-d-ne0.false c.set_list-v.ensures c.if-v-ne0.false c.label_list-l.ensures c.if-l-ne0.false

@@ -13,25 +13,28 @@ returns-then-x-ne0 c = lists_refused (opens_code c.opened-x.ensures) c.if-x-ne0.
 
 pub longs_count-n-requires : goal.longs_count-n-requires
 longs_count-n-requires c =
+    let ready : LongsAt c.args.f.now c.opened-x.result = let o = c.opened-x in
+    longs_at (λ i. omega (arith, c.shared_slice_known-1.given i)) o.ensures c.if-x-ne0.false in
     let x = c.opened-x.result in
-    (told_room (long_teller x.e.tagged (order_by x.msf) x.e.record_width) ((let it : LongsAt c.args.f.now c.opened-x.result = let o = c.opened-x in
-    longs_at (λ i. omega (arith, c.shared_slice_known-1.given i)) o.ensures c.if-x-ne0.false in it)).stand, ((let it : LongsAt c.args.f.now c.opened-x.result = let o = c.opened-x in
-    longs_at (λ i. omega (arith, c.shared_slice_known-1.given i)) o.ensures c.if-x-ne0.false in it)).narrow)
+    (told_room (long_teller x.e.tagged (order_by x.msf) x.e.record_width) ready.stand, ready.narrow)
 
 pub returns-then-out-n : goal.returns-then-out-n
 returns-then-out-n c =
-    let r = (let it : LongsAt c.args.f.now c.opened-x.result = let o = c.opened-x in
-    longs_at (λ i. omega (arith, c.shared_slice_known-1.given i)) o.ensures c.if-x-ne0.false in it) in
+    let ready : LongsAt c.args.f.now c.opened-x.result = let o = c.opened-x in
+    longs_at (λ i. omega (arith, c.shared_slice_known-1.given i)) o.ensures c.if-x-ne0.false in
+    let r = ready in
     counted_short c.longs_count-n.ensures r.stand r.told r.accepted (omega arith)
 
 pub put_longs-requires : goal.put_longs-requires
 put_longs-requires c =
-    let r = (let it : LongsAt c.args.f.now c.opened-x.result = let o = c.opened-x in
-    longs_at (λ i. omega (arith, c.shared_slice_known-1.given i)) o.ensures c.if-x-ne0.false in it) in
+    let ready : LongsAt c.args.f.now c.opened-x.result = let o = c.opened-x in
+    longs_at (λ i. omega (arith, c.shared_slice_known-1.given i)) o.ensures c.if-x-ne0.false in
+    let r = ready in
     (counted_room c.longs_count-n.ensures r.stand r.told (omega (arith, c.if-out-n.false)), r.narrow)
 
 pub returns : goal.returns
 returns c =
-    let r = (let it : LongsAt c.args.f.now c.opened-x.result = let o = c.opened-x in
-    longs_at (λ i. omega (arith, c.shared_slice_known-1.given i)) o.ensures c.if-x-ne0.false in it) in
+    let ready : LongsAt c.args.f.now c.opened-x.result = let o = c.opened-x in
+    longs_at (λ i. omega (arith, c.shared_slice_known-1.given i)) o.ensures c.if-x-ne0.false in
+    let r = ready in
     counted_done c.longs_count-n.ensures r.stand r.told r.accepted (omega (arith, c.if-out-n.false)) c.put_longs.ensures

@@ -20,7 +20,7 @@ pub returns-then-is_empty : goal.returns-then-is_empty
 returns-then-is_empty c =
     let a = c.args in
     let f = a.f.now in
-    let l = layout_by a.t2 in
+    let l = layout_by a.l in
     let e = numbers_of a.e in
     let o = order_by a.msf in
     let v = a.v in
@@ -33,7 +33,7 @@ pub returns-then-end-l : goal.returns-then-end-l
 returns-then-end-l c =
     let a = c.args in
     let f = a.f.now in
-    let l = layout_by a.t2 in
+    let l = layout_by a.l in
     let e = numbers_of a.e in
     let o = order_by a.msf in
     let v = a.v in
@@ -41,7 +41,7 @@ returns-then-end-l c =
     let A = long_said e o f l (reference v x) in
     let h = sym c.is_empty.ensures ∙ c.if-is_empty.false in
     let z = c.less-end.result in
-    let Z : z ≡ end_of e.tagged l 10 n_strls = end_is e.tagged n_strls 8 (get_or a.t2.places 11 0) c.tag_size.result z refl c.tag_size.ensures c.less-end.ensures.0 in
+    let Z : z ≡ end_of e.tagged l 10 n_strls = end_is e.tagged n_strls 8 (get_or a.l.places 11 0) c.tag_size.result z refl c.tag_size.ensures c.less-end.ensures.0 in
     long_alone A (refused 17) _ c.no_long-then-end-l.ensures (long_past e o f l v x h (start_of e.tagged l 10 n_strls) z refl Z (omega (arith, c.if-end-l.true)))
 
 -- src/lib.rt:270:14
@@ -49,7 +49,7 @@ pub overflow_add-p : goal.overflow_add-p
 overflow_add-p c =
     let a = c.args in
     let f = a.f.now in
-    let l = layout_by a.t2 in
+    let l = layout_by a.l in
     let e = numbers_of a.e in
     let o = order_by a.msf in
     let v = a.v in
@@ -57,7 +57,7 @@ overflow_add-p c =
     let A = long_said e o f l (reference v x) in
     let h = sym c.is_empty.ensures ∙ c.if-is_empty.false in
     let z = c.less-end.result in
-    let Z : z ≡ end_of e.tagged l 10 n_strls = end_is e.tagged n_strls 8 (get_or a.t2.places 11 0) c.tag_size.result z refl c.tag_size.ensures c.less-end.ensures.0 in
+    let Z : z ≡ end_of e.tagged l 10 n_strls = end_is e.tagged n_strls 8 (get_or a.l.places 11 0) c.tag_size.result z refl c.tag_size.ensures c.less-end.ensures.0 in
     let m = part_more e.tagged 7 8 c.tag_size-2.result c.tag_size.result (omega arith) c.tag_size-2.ensures c.tag_size.ensures in
     omega (arith, m, c.if-end-l.false, c.less-end.ensures.0, c.less-end.ensures.1)
 
@@ -66,7 +66,7 @@ pub returns-then-f-p : goal.returns-then-f-p
 returns-then-f-p c =
     let a = c.args in
     let f = a.f.now in
-    let l = layout_by a.t2 in
+    let l = layout_by a.l in
     let e = numbers_of a.e in
     let o = order_by a.msf in
     let v = a.v in
@@ -74,9 +74,9 @@ returns-then-f-p c =
     let A = long_said e o f l (reference v x) in
     let h = sym c.is_empty.ensures ∙ c.if-is_empty.false in
     let z = c.less-end.result in
-    let Z : z ≡ end_of e.tagged l 10 n_strls = end_is e.tagged n_strls 8 (get_or a.t2.places 11 0) c.tag_size.result z refl c.tag_size.ensures c.less-end.ensures.0 in
-    let p = get_or a.t2.places 10 0 + c.tag_size-2.result in
-    let P : p ≡ start_of e.tagged l 10 n_strls = start_is e.tagged n_strls 7 (get_or a.t2.places 10 0) c.tag_size-2.result refl c.tag_size-2.ensures in
+    let Z : z ≡ end_of e.tagged l 10 n_strls = end_is e.tagged n_strls 8 (get_or a.l.places 11 0) c.tag_size.result z refl c.tag_size.ensures c.less-end.ensures.0 in
+    let p = get_or a.l.places 10 0 + c.tag_size-2.result in
+    let P : p ≡ start_of e.tagged l 10 n_strls = start_is e.tagged n_strls 7 (get_or a.l.places 10 0) c.tag_size-2.result refl c.tag_size-2.ensures in
     long_alone A (refused 17) _ c.no_long-then-f-p.ensures (long_out e o f l v x h p z P Z c.if-f-p.true)
 
 -- src/lib.rt:259:1
@@ -84,7 +84,7 @@ pub returns : goal.returns
 returns c =
     let a = c.args in
     let f = a.f.now in
-    let l = layout_by a.t2 in
+    let l = layout_by a.l in
     let e = numbers_of a.e in
     let o = order_by a.msf in
     let v = a.v in
@@ -92,7 +92,7 @@ returns c =
     let A = long_said e o f l (reference v x) in
     let h = sym c.is_empty.ensures ∙ c.if-is_empty.false in
     let z = c.less-end.result in
-    let Z : z ≡ end_of e.tagged l 10 n_strls = end_is e.tagged n_strls 8 (get_or a.t2.places 11 0) c.tag_size.result z refl c.tag_size.ensures c.less-end.ensures.0 in
-    let p = get_or a.t2.places 10 0 + c.tag_size-2.result in
-    let P : p ≡ start_of e.tagged l 10 n_strls = start_is e.tagged n_strls 7 (get_or a.t2.places 10 0) c.tag_size-2.result refl c.tag_size-2.ensures in
+    let Z : z ≡ end_of e.tagged l 10 n_strls = end_is e.tagged n_strls 8 (get_or a.l.places 11 0) c.tag_size.result z refl c.tag_size.ensures c.less-end.ensures.0 in
+    let p = get_or a.l.places 10 0 + c.tag_size-2.result in
+    let P : p ≡ start_of e.tagged l 10 n_strls = start_is e.tagged n_strls 7 (get_or a.l.places 10 0) c.tag_size-2.result refl c.tag_size-2.ensures in
     long_alone A (or_refused (records_from e.record_width o f v x z p)) _ c.records.ensures (sym (long_walk e o f l v x h p z P Z))

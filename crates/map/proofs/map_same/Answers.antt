@@ -17,7 +17,7 @@ returns-then-number-places c =
     let a = c.args in
     let f = a.f.now in
     let o = order_by a.msf in
-    let d = a.t3 in
+    let d = a.places in
     let l = c.loop-i in
     let m : length d ≡ 14 = c.requires.1 in
     same_stop o f d l.i l.q (omega arith) (λ e. c.if-number-places.true (c.number.ensures.is ∙ e)) ∙ l.invariant.2 ∙ same_all o f d a.p c.requires.1
@@ -28,7 +28,7 @@ loop-i-preserved c =
     let a = c.args in
     let f = a.f.now in
     let o = order_by a.msf in
-    let d = a.t3 in
+    let d = a.places in
     let l = c.loop-i in
     let m : length d ≡ 14 = c.requires.1 in
     (omega arith, omega arith, same_turn o f d l.i l.q (omega arith) (sym c.number.ensures.is ∙ c.if-number-places.false) ∙ l.invariant.2)
@@ -39,7 +39,7 @@ returns c =
     let a = c.args in
     let f = a.f.now in
     let o = order_by a.msf in
-    let d = a.t3 in
+    let d = a.places in
     let l = c.loop-i in
     let m : length d ≡ 14 = c.requires.1 in
     same_none o f d l.i l.q (omega arith) ∙ l.invariant.2 ∙ same_all o f d a.p c.requires.1

@@ -51,7 +51,7 @@ loop-m-preserved c =
     let l = c.loop-m in
     let a = c.args in
     let y = c.put_entry in
-    entered_on (order_by a.msf) a.f.now a.p a.n a.x l.invariant y.new.0 (omega arith) c.requires.1 y.ensures
+    entered_on (order_by a.msf) a.f.now a.p a.n a.x l.invariant y.new.out (omega arith) c.requires.1 y.ensures
 
 pub shape_of-out : goal.shape_of-out
 shape_of-out c = c.loop-m.invariant.whole

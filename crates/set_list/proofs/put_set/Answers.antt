@@ -12,4 +12,4 @@ returns c =
     let a = c.args in
     let y = c.put_entries in
     let first = puts_first (puts_as (ap (λ (z : ℕ). a.a ∷ z ∷ a.n ∷ []) c.text_len-k.ensures.is) c.put_three.ensures) (omega arith) in
-    (record { all = λ u U. puts_of (puts_part first (entries_to u (a.p + 8 + a.n * 4 + a.n * 4) a.n) y.new.0 (a.n * 3) (y.ensures.0.all u U) (omega arith)) }, y.ensures.1)
+    (record { all = λ u U. puts_of (puts_part first (entries_to u (a.p + 8 + a.n * 4 + a.n * 4) a.n) y.new.out (a.n * 3) (y.ensures.0.all u U) (omega arith)) }, y.ensures.1)

@@ -68,7 +68,7 @@ loop-at-preserved c =
     let b = c.loop-at-test.true in
     let r = c.block_at-b in
     let y = c.put_set in
-    (done_on l.invariant.0 b y.new.0 r.result.next (3 + r.result.entries * 3) (next_far l.invariant.0.counted b r.ensures) (next_puts l.invariant.0.counted b r.ensures y.ensures.0), y.ensures.1)
+    (done_on l.invariant.0 b y.new.out r.result.next (3 + r.result.entries * 3) (next_far l.invariant.0.counted b r.ensures) (next_puts l.invariant.0.counted b r.ensures y.ensures.0), y.ensures.1)
 
 pub shape_of-out : goal.shape_of-out
 shape_of-out c = c.loop-at.invariant.0.laid.whole

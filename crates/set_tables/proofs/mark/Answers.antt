@@ -21,27 +21,36 @@ pub is_next-requires : goal.is_next-requires
 is_next-requires c = (c.requires.2, c.requires.3)
 
 pub offset_bounds-t-k : goal.offset_bounds-t-k
-offset_bounds-t-k c = omega (arith, (let it : c.loop-l.k < length c.args.v.now = let a = c.args in
-    next_in a.f.now (layout_by a.l) a.v.now (slice a.f.now a.a a.n) c.loop-l.t c.loop-l.k (sym c.loop-l-test.true ∙ c.is_next.ensures) in it))
+offset_bounds-t-k c =
+    let inside : c.loop-l.k < length c.args.v.now = let a = c.args in
+    next_in a.f.now (layout_by a.l) a.v.now (slice a.f.now a.a a.n) c.loop-l.t c.loop-l.k (sym c.loop-l-test.true ∙ c.is_next.ensures) in
+    omega (arith, inside)
 
 pub bounds-t-k : goal.bounds-t-k
-bounds-t-k c = omega (arith, (let it : c.loop-l.k < length c.args.v.now = let a = c.args in
-    next_in a.f.now (layout_by a.l) a.v.now (slice a.f.now a.a a.n) c.loop-l.t c.loop-l.k (sym c.loop-l-test.true ∙ c.is_next.ensures) in it))
+bounds-t-k c =
+    let inside : c.loop-l.k < length c.args.v.now = let a = c.args in
+    next_in a.f.now (layout_by a.l) a.v.now (slice a.f.now a.a a.n) c.loop-l.t c.loop-l.k (sym c.loop-l-test.true ∙ c.is_next.ensures) in
+    omega (arith, inside)
 
 pub overflow_add-k : goal.overflow_add-k
-overflow_add-k c = omega (arith, (let it : c.loop-l.k < length c.args.v.now = let a = c.args in
-    next_in a.f.now (layout_by a.l) a.v.now (slice a.f.now a.a a.n) c.loop-l.t c.loop-l.k (sym c.loop-l-test.true ∙ c.is_next.ensures) in it))
+overflow_add-k c =
+    let inside : c.loop-l.k < length c.args.v.now = let a = c.args in
+    next_in a.f.now (layout_by a.l) a.v.now (slice a.f.now a.a a.n) c.loop-l.t c.loop-l.k (sym c.loop-l-test.true ∙ c.is_next.ensures) in
+    omega (arith, inside)
 
 pub loop-l-smaller : goal.loop-l-smaller
-loop-l-smaller c = omega (arith, (let it : c.loop-l.k < length c.args.v.now = let a = c.args in
-    next_in a.f.now (layout_by a.l) a.v.now (slice a.f.now a.a a.n) c.loop-l.t c.loop-l.k (sym c.loop-l-test.true ∙ c.is_next.ensures) in it))
+loop-l-smaller c =
+    let inside : c.loop-l.k < length c.args.v.now = let a = c.args in
+    next_in a.f.now (layout_by a.l) a.v.now (slice a.f.now a.a a.n) c.loop-l.t c.loop-l.k (sym c.loop-l-test.true ∙ c.is_next.ensures) in
+    omega (arith, inside)
 
 pub loop-l-preserved : goal.loop-l-preserved
 loop-l-preserved c =
+    let inside : c.loop-l.k < length c.args.v.now = let a = c.args in
+    next_in a.f.now (layout_by a.l) a.v.now (slice a.f.now a.a a.n) c.loop-l.t c.loop-l.k (sym c.loop-l-test.true ∙ c.is_next.ensures) in
     let a = c.args in
     let p = c.loop-l in
-    marking_on a.f.now (layout_by a.l) a.v.now (slice a.f.now a.a a.n) a.x a.t.now c.first_from-k.result p.k p.t p.invariant (sym c.loop-l-test.true ∙ c.is_next.ensures) (omega (arith, (let it : c.loop-l.k < length c.args.v.now = let a = c.args in
-    next_in a.f.now (layout_by a.l) a.v.now (slice a.f.now a.a a.n) c.loop-l.t c.loop-l.k (sym c.loop-l-test.true ∙ c.is_next.ensures) in it), p.invariant.long, c.requires.4))
+    marking_on a.f.now (layout_by a.l) a.v.now (slice a.f.now a.a a.n) a.x a.t.now c.first_from-k.result p.k p.t p.invariant (sym c.loop-l-test.true ∙ c.is_next.ensures) (omega (arith, inside, p.invariant.long, c.requires.4))
 
 pub returns : goal.returns
 returns c =

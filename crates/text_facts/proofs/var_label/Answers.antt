@@ -13,7 +13,7 @@ pub returns : goal.returns
 returns c =
     let a = c.args in
     let f = a.f.now in
-    let l = layout_by a.t2 in
+    let l = layout_by a.l in
     let e = c.edition_in-o.result.e in
     let q = list_place e.tagged n_variable_labels 17 (place l 7) _ _ _ e.var_label_width refl c.tag_size.ensures c.less.ensures.0 in
     tells_answer f l (ask_var_label a.i) c.edition_in-o.result c.edition_in-o.ensures part_by _ (c.refusal-c.ensures ∙ ap (λ (b : Bool). cond b (cond c.edition_in-o.result.there 0 17) 16) c.is_among.ensures) _ (ap (text_part e.var_label_width f) q) c.text_field.ensures

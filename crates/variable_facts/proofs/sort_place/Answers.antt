@@ -21,7 +21,7 @@ pub returns-then-c-ne0 : goal.returns-then-c-ne0
 returns-then-c-ne0 c =
     let a = c.args in
     let f = a.f.now in
-    let l = layout_by a.t2 in
+    let l = layout_by a.l in
     let q = ask_sort a.i in
     let r = c.edition_in-o.result in
     let E = c.edition_in-o.ensures in
@@ -33,7 +33,7 @@ pub returns-then-not-p : goal.returns-then-not-p
 returns-then-not-p c =
     let a = c.args in
     let f = a.f.now in
-    let l = layout_by a.t2 in
+    let l = layout_by a.l in
     let q = ask_sort a.i in
     let r = c.edition_in-o.result in
     let E = c.edition_in-o.ensures in
@@ -48,7 +48,7 @@ pub sort_find-requires : goal.sort_find-requires
 sort_find-requires c =
     let a = c.args in
     let f = a.f.now in
-    let l = layout_by a.t2 in
+    let l = layout_by a.l in
     let q = ask_sort a.i in
     let r = c.edition_in-o.result in
     let E = c.edition_in-o.ensures in
@@ -64,7 +64,7 @@ pub returns : goal.returns
 returns c =
     let a = c.args in
     let f = a.f.now in
-    let l = layout_by a.t2 in
+    let l = layout_by a.l in
     let q = ask_sort a.i in
     let r = c.edition_in-o.result in
     let E = c.edition_in-o.ensures in

@@ -18,7 +18,7 @@ pub returns-then-c-ne0 : goal.returns-then-c-ne0
 returns-then-c-ne0 c =
     let a = c.args in
     let f = a.f.now in
-    let l = layout_by a.t2 in
+    let l = layout_by a.l in
     let q = ask_type a.i in
     let r = c.edition_in-o.result in
     let E = c.edition_in-o.ensures in
@@ -30,7 +30,7 @@ pub returns : goal.returns
 returns c =
     let a = c.args in
     let f = a.f.now in
-    let l = layout_by a.t2 in
+    let l = layout_by a.l in
     let q = ask_type a.i in
     let r = c.edition_in-o.result in
     let E = c.edition_in-o.ensures in

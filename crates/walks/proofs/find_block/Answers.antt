@@ -23,10 +23,10 @@ returns-then-not-b c =
     (c.block_at-b.ensures.gone (not-true c.block_at-b.result.there c.if-not-b.true)) _ c.no_set.ensures
 
 pub overflow_add-s : goal.overflow_add-s
-overflow_add-s c = omega (arith, ((let it : (let a = c.args in let b = c.block_at-b.result in BlockGot a.tagged a.w (order_by a.msf) a.f.now a.end c.loop-p.p b.table b.name) = c.block_at-b.ensures.whole (not-false c.block_at-b.result.there c.if-not-b.false) in it)).ranges, c.open_size.ensures.0, c.ranges.end)
+overflow_add-s c = omega (arith, ((let it : (let a = c.args in let b = c.block_at-b.result in BlockGot a.tagged a.w (order_by a.msf) a.f.now a.end c.loop-p.p b.table b.name) = c.block_at-b.ensures.whole (not-false c.block_at-b.result.there c.if-not-b.false) in it)).fits, c.open_size.ensures.0, c.ranges.end)
 
 pub overflow_add-s-in-loop-p : goal.overflow_add-s-in-loop-p
-overflow_add-s-in-loop-p c = omega (arith, ((let it : (let a = c.args in let b = c.block_at-b.result in BlockGot a.tagged a.w (order_by a.msf) a.f.now a.end c.loop-p.p b.table b.name) = c.block_at-b.ensures.whole (not-false c.block_at-b.result.there c.if-not-b.false) in it)).ranges, c.open_size.ensures.0, c.ranges.end)
+overflow_add-s-in-loop-p c = omega (arith, ((let it : (let a = c.args in let b = c.block_at-b.result in BlockGot a.tagged a.w (order_by a.msf) a.f.now a.end c.loop-p.p b.table b.name) = c.block_at-b.ensures.whole (not-false c.block_at-b.result.there c.if-not-b.false) in it)).fits, c.open_size.ensures.0, c.ranges.end)
 
 pub same_name-requires : goal.same_name-requires
 same_name-requires c = (omega (arith, ((let it : (let a = c.args in let b = c.block_at-b.result in BlockGot a.tagged a.w (order_by a.msf) a.f.now a.end c.loop-p.p b.table b.name) = c.block_at-b.ensures.whole (not-false c.block_at-b.result.there c.if-not-b.false) in it)).inside, c.open_size.ensures.0), c.requires.0)

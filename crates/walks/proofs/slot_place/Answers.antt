@@ -45,7 +45,7 @@ returns-in-Found c =
     ∙ ap (λ (z : ℤ). (search_at o f (p + 8 + n * 4) (length f) n z).slot) (to_z-of_z w32 a.q c.ranges.q) in
     let m = c.in-Found.m in
     let e = ap slot_of (sym c.in-Found.is) ∙ s in
-    words_as _ (entry_place o f p n x m) (slot_place o f p n x a.q) c.entry_IsPlace.ensures (slot_found o f p n x a.q m e)
+    words_as _ (entry_place o f p n x m) (slot_place o f p n x a.q) c.entry_place.ensures (slot_found o f p n x a.q m e)
 
 -- src/lib.rt:143:1
 pub returns-in-Missing : goal.returns-in-Missing

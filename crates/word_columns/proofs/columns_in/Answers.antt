@@ -41,17 +41,24 @@ pub overflow_sub-n : goal.overflow_sub-n
 overflow_sub-n c = omega (arith, come_room c.loop-k.invariant.0)
 
 pub overflow_mul-at : goal.overflow_mul-at
-overflow_mul-at c = let h = (let it : c.loop-k.at * 4 + c.least-m.result * 4 ≤ length c.loop-k.out = come_fits c.loop-k.invariant.0 c.loop-k-test.true c.if-at-n.false c.least-m.result c.least-m.ensures in it) in omega (arith, h, come_long c.loop-k.invariant.0, c.well_formed.1.1.1.1.1.0)
+overflow_mul-at c =
+    let room_here : c.loop-k.at * 4 + c.least-m.result * 4 ≤ length c.loop-k.out = come_fits c.loop-k.invariant.0 c.loop-k-test.true c.if-at-n.false c.least-m.result c.least-m.ensures in
+    let h = room_here in omega (arith, h, come_long c.loop-k.invariant.0, c.well_formed.1.1.1.1.1.0)
 
 pub offset_bounds-out-at : goal.offset_bounds-out-at
-offset_bounds-out-at c = let h = (let it : c.loop-k.at * 4 + c.least-m.result * 4 ≤ length c.loop-k.out = come_fits c.loop-k.invariant.0 c.loop-k-test.true c.if-at-n.false c.least-m.result c.least-m.ensures in it) in omega (arith, h, come_long c.loop-k.invariant.0, c.well_formed.1.1.1.1.1.0)
+offset_bounds-out-at c =
+    let room_here : c.loop-k.at * 4 + c.least-m.result * 4 ≤ length c.loop-k.out = come_fits c.loop-k.invariant.0 c.loop-k-test.true c.if-at-n.false c.least-m.result c.least-m.ensures in
+    let h = room_here in omega (arith, h, come_long c.loop-k.invariant.0, c.well_formed.1.1.1.1.1.0)
 
 pub slice_bounds-words_in-count : goal.slice_bounds-words_in-count
-slice_bounds-words_in-count c = let h = (let it : c.loop-k.at * 4 + c.least-m.result * 4 ≤ length c.loop-k.out = come_fits c.loop-k.invariant.0 c.loop-k-test.true c.if-at-n.false c.least-m.result c.least-m.ensures in it) in omega (arith, h, come_long c.loop-k.invariant.0, c.well_formed.1.1.1.1.1.0)
+slice_bounds-words_in-count c =
+    let room_here : c.loop-k.at * 4 + c.least-m.result * 4 ≤ length c.loop-k.out = come_fits c.loop-k.invariant.0 c.loop-k-test.true c.if-at-n.false c.least-m.result c.least-m.ensures in
+    let h = room_here in omega (arith, h, come_long c.loop-k.invariant.0, c.well_formed.1.1.1.1.1.0)
 
 pub words_in-x-requires : goal.words_in-x-requires
 words_in-x-requires c =
-    let h = (let it : c.loop-k.at * 4 + c.least-m.result * 4 ≤ length c.loop-k.out = come_fits c.loop-k.invariant.0 c.loop-k-test.true c.if-at-n.false c.least-m.result c.least-m.ensures in it) in
+    let room_here : c.loop-k.at * 4 + c.least-m.result * 4 ≤ length c.loop-k.out = come_fits c.loop-k.invariant.0 c.loop-k-test.true c.if-at-n.false c.least-m.result c.least-m.ensures in
+    let h = room_here in
     let a = c.args in
     let m = c.least-m in
     let k = come_few c.loop-k.invariant.0 c.loop-k-test.true c.if-at-n.false m.result m.ensures in (
@@ -62,7 +69,9 @@ words_in-x-requires c =
     )
 
 pub overflow_add-at : goal.overflow_add-at
-overflow_add-at c = let h = (let it : c.loop-k.at * 4 + c.least-m.result * 4 ≤ length c.loop-k.out = come_fits c.loop-k.invariant.0 c.loop-k-test.true c.if-at-n.false c.least-m.result c.least-m.ensures in it) in omega (arith, h, come_long c.loop-k.invariant.0, c.well_formed.1.1.1.1.1.0)
+overflow_add-at c =
+    let room_here : c.loop-k.at * 4 + c.least-m.result * 4 ≤ length c.loop-k.out = come_fits c.loop-k.invariant.0 c.loop-k-test.true c.if-at-n.false c.least-m.result c.least-m.ensures in
+    let h = room_here in omega (arith, h, come_long c.loop-k.invariant.0, c.well_formed.1.1.1.1.1.0)
 
 pub overflow_add-k : goal.overflow_add-k
 overflow_add-k c = omega (arith, c.loop-k-test.true, c.well_formed.1.1.0)

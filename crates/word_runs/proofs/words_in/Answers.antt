@@ -36,28 +36,31 @@ overflow_add-j c = omega (arith, c.loop-m-test.true, c.requires.3)
 
 pub cell_in_row-said-requires : goal.cell_in_row-said-requires
 cell_in_row-said-requires c =
-    let a = c.args in
-    let o = c.edition_in-o in
-    can_read a.f.now (layout_by a.l) a.i (a.j + c.loop-m.m) o.result o.ensures a.c c.requires.0.column c.row_in-row.result ((let it : (let a = c.args in let d = a.c in c.row_in-row.result ≡ row_in a.f.now d.code d.row (a.j + c.loop-m.m) a.l.n (start_of (numbers_of c.edition_in-o.result.e).tagged (layout_by a.l) 9 n_data)) = let a = c.args in
+    let row_here : (let a = c.args in let d = a.c in c.row_in-row.result ≡ row_in a.f.now d.code d.row (a.j + c.loop-m.m) a.l.n (start_of (numbers_of c.edition_in-o.result.e).tagged (layout_by a.l) 9 n_data)) = let a = c.args in
     let d = a.c in
     let s = c.place_of-start in
     let t = c.tag_size-gap in
     let e = numbers_of c.edition_in-o.result.e in
     let g = ap (λ (x : ℕ). x + t.result) s.ensures ∙ start_is e.tagged n_data 6 (place (layout_by a.l) 9) t.result refl t.ensures in
-    c.row_in-row.ensures ∙ ap (row_in a.f.now d.code d.row (a.j + c.loop-m.m) a.l.n) g in it)) (omega (arith, c.well_formed.0.0))
+    c.row_in-row.ensures ∙ ap (row_in a.f.now d.code d.row (a.j + c.loop-m.m) a.l.n) g in
+    let a = c.args in
+    let o = c.edition_in-o in
+    can_read a.f.now (layout_by a.l) a.i (a.j + c.loop-m.m) o.result o.ensures a.c c.requires.0.column c.row_in-row.result row_here (omega (arith, c.well_formed.0.0))
 
 pub cell_place-w-requires : goal.cell_place-w-requires
 cell_place-w-requires c =
-    let a = c.args in
-    said_lettered a.f.now (layout_by a.l) a.i (a.j + c.loop-m.m) ((let it : (let a = c.args in c.cell_in_row-said.result ≡ said_by (answer_of a.f.now (layout_by a.l) (ask_cell a.i (a.j + c.loop-m.m)))) = let a = c.args in
-    let o = c.edition_in-o in
-    said_in_lem a.f.now (layout_by a.l) a.i (a.j + c.loop-m.m) o.result o.ensures a.c c.requires.0.column c.row_in-row.result ((let it : (let a = c.args in let d = a.c in c.row_in-row.result ≡ row_in a.f.now d.code d.row (a.j + c.loop-m.m) a.l.n (start_of (numbers_of c.edition_in-o.result.e).tagged (layout_by a.l) 9 n_data)) = let a = c.args in
+    let row_here : (let a = c.args in let d = a.c in c.row_in-row.result ≡ row_in a.f.now d.code d.row (a.j + c.loop-m.m) a.l.n (start_of (numbers_of c.edition_in-o.result.e).tagged (layout_by a.l) 9 n_data)) = let a = c.args in
     let d = a.c in
     let s = c.place_of-start in
     let t = c.tag_size-gap in
     let e = numbers_of c.edition_in-o.result.e in
     let g = ap (λ (x : ℕ). x + t.result) s.ensures ∙ start_is e.tagged n_data 6 (place (layout_by a.l) 9) t.result refl t.ensures in
-    c.row_in-row.ensures ∙ ap (row_in a.f.now d.code d.row (a.j + c.loop-m.m) a.l.n) g in it)) (omega (arith, c.well_formed.0.0)) c.cell_in_row-said.result c.cell_in_row-said.ensures in it))
+    c.row_in-row.ensures ∙ ap (row_in a.f.now d.code d.row (a.j + c.loop-m.m) a.l.n) g in
+    let said_here : (let a = c.args in c.cell_in_row-said.result ≡ said_by (answer_of a.f.now (layout_by a.l) (ask_cell a.i (a.j + c.loop-m.m)))) = let a = c.args in
+    let o = c.edition_in-o in
+    said_in_lem a.f.now (layout_by a.l) a.i (a.j + c.loop-m.m) o.result o.ensures a.c c.requires.0.column c.row_in-row.result row_here (omega (arith, c.well_formed.0.0)) c.cell_in_row-said.result c.cell_in_row-said.ensures in
+    let a = c.args in
+    said_lettered a.f.now (layout_by a.l) a.i (a.j + c.loop-m.m) said_here
 
 pub ended_by-e-requires : goal.ended_by-e-requires
 ended_by-e-requires c =
@@ -65,16 +68,24 @@ ended_by-e-requires c =
     (c.loop-m.invariant.2, omega (arith, g.inside, c.loop-m.invariant.3), omega (arith, g.small, c.loop-m.invariant.3))
 
 pub overflow_mul-m : goal.overflow_mul-m
-overflow_mul-m c = let h = (let it : c.loop-m.m * 4 + 4 ≤ length c.loop-m.out = omega (arith, c.loop-m-test.true, c.requires.2, filled_long c.loop-m.invariant.1) in it) in omega (arith, h, c.well_formed.1.1.1.1.1.1.1.1.1.0)
+overflow_mul-m c =
+    let room_here : c.loop-m.m * 4 + 4 ≤ length c.loop-m.out = omega (arith, c.loop-m-test.true, c.requires.2, filled_long c.loop-m.invariant.1) in
+    let h = room_here in omega (arith, h, c.well_formed.1.1.1.1.1.1.1.1.1.0)
 
 pub offset_bounds-out-m : goal.offset_bounds-out-m
-offset_bounds-out-m c = let h = (let it : c.loop-m.m * 4 + 4 ≤ length c.loop-m.out = omega (arith, c.loop-m-test.true, c.requires.2, filled_long c.loop-m.invariant.1) in it) in omega (arith, h, c.well_formed.1.1.1.1.1.1.1.1.1.0)
+offset_bounds-out-m c =
+    let room_here : c.loop-m.m * 4 + 4 ≤ length c.loop-m.out = omega (arith, c.loop-m-test.true, c.requires.2, filled_long c.loop-m.invariant.1) in
+    let h = room_here in omega (arith, h, c.well_formed.1.1.1.1.1.1.1.1.1.0)
 
 pub slice_bounds-put_words-count : goal.slice_bounds-put_words-count
-slice_bounds-put_words-count c = let h = (let it : c.loop-m.m * 4 + 4 ≤ length c.loop-m.out = omega (arith, c.loop-m-test.true, c.requires.2, filled_long c.loop-m.invariant.1) in it) in omega (arith, h, c.well_formed.1.1.1.1.1.1.1.1.1.0)
+slice_bounds-put_words-count c =
+    let room_here : c.loop-m.m * 4 + 4 ≤ length c.loop-m.out = omega (arith, c.loop-m-test.true, c.requires.2, filled_long c.loop-m.invariant.1) in
+    let h = room_here in omega (arith, h, c.well_formed.1.1.1.1.1.1.1.1.1.0)
 
 pub put_words-requires : goal.put_words-requires
-put_words-requires c = let h = (let it : c.loop-m.m * 4 + 4 ≤ length c.loop-m.out = omega (arith, c.loop-m-test.true, c.requires.2, filled_long c.loop-m.invariant.1) in it) in simp (length-take, length-drop) (omega arith)
+put_words-requires c =
+    let room_here : c.loop-m.m * 4 + 4 ≤ length c.loop-m.out = omega (arith, c.loop-m-test.true, c.requires.2, filled_long c.loop-m.invariant.1) in
+    let h = room_here in simp (length-take, length-drop) (omega arith)
 
 pub listed-had-requires : goal.listed-had-requires
 listed-had-requires c =
@@ -86,25 +97,30 @@ overflow_add-m c = omega (arith, c.loop-m-test.true, c.ranges.n)
 
 pub loop-m-preserved : goal.loop-m-preserved
 loop-m-preserved c =
-    let a = c.args in (
-      omega (arith, c.loop-m-test.true),
-      filled_on c.loop-m.invariant.1 (omega (arith, (let it : c.loop-m.m * 4 + 4 ≤ length c.loop-m.out = omega (arith, c.loop-m-test.true, c.requires.2, filled_long c.loop-m.invariant.1) in it), filled_long c.loop-m.invariant.1)) _ _
-          (words_means a.f.now (layout_by a.l) a.i (a.j + c.loop-m.m) ((let it : (let a = c.args in c.ended_by-e.result ≡ words_by (answer_of a.f.now (layout_by a.l) (ask_words a.i (a.j + c.loop-m.m) []))) = let a = c.args in
-    let f = a.f.now in
-    c.ended_by-e.ensures
-    ∙ ap (ended_by f) c.cell_place-w.ensures
-    ∙ sym (cell_ended (order_by c.edition_in-o.result.msf) f a.s c.cell_in_row-said.result)
-    ∙ ap words_by ((let it : (let a = c.args in cell_words (set_says (order_by c.edition_in-o.result.msf) a.f.now a.s) c.cell_in_row-said.result ≡ answer_of a.f.now (layout_by a.l) (ask_words a.i (a.j + c.loop-m.m) [])) = let a = c.args in
-    let o = c.edition_in-o in
-    words_by_lem a.f.now (layout_by a.l) a.i (a.j + c.loop-m.m) o.result o.ensures c.cell_in_row-said.result ((let it : (let a = c.args in c.cell_in_row-said.result ≡ said_by (answer_of a.f.now (layout_by a.l) (ask_cell a.i (a.j + c.loop-m.m)))) = let a = c.args in
-    let o = c.edition_in-o in
-    said_in_lem a.f.now (layout_by a.l) a.i (a.j + c.loop-m.m) o.result o.ensures a.c c.requires.0.column c.row_in-row.result ((let it : (let a = c.args in let d = a.c in c.row_in-row.result ≡ row_in a.f.now d.code d.row (a.j + c.loop-m.m) a.l.n (start_of (numbers_of c.edition_in-o.result.e).tagged (layout_by a.l) 9 n_data)) = let a = c.args in
+    let room_here : c.loop-m.m * 4 + 4 ≤ length c.loop-m.out = omega (arith, c.loop-m-test.true, c.requires.2, filled_long c.loop-m.invariant.1) in
+    let row_here : (let a = c.args in let d = a.c in c.row_in-row.result ≡ row_in a.f.now d.code d.row (a.j + c.loop-m.m) a.l.n (start_of (numbers_of c.edition_in-o.result.e).tagged (layout_by a.l) 9 n_data)) = let a = c.args in
     let d = a.c in
     let s = c.place_of-start in
     let t = c.tag_size-gap in
     let e = numbers_of c.edition_in-o.result.e in
     let g = ap (λ (x : ℕ). x + t.result) s.ensures ∙ start_is e.tagged n_data 6 (place (layout_by a.l) 9) t.result refl t.ensures in
-    c.row_in-row.ensures ∙ ap (row_in a.f.now d.code d.row (a.j + c.loop-m.m) a.l.n) g in it)) (omega (arith, c.well_formed.0.0)) c.cell_in_row-said.result c.cell_in_row-said.ensures in it)) a.s c.requires.0.set in it)) in it))) c.put_words.ensures,
+    c.row_in-row.ensures ∙ ap (row_in a.f.now d.code d.row (a.j + c.loop-m.m) a.l.n) g in
+    let said_here : (let a = c.args in c.cell_in_row-said.result ≡ said_by (answer_of a.f.now (layout_by a.l) (ask_cell a.i (a.j + c.loop-m.m)))) = let a = c.args in
+    let o = c.edition_in-o in
+    said_in_lem a.f.now (layout_by a.l) a.i (a.j + c.loop-m.m) o.result o.ensures a.c c.requires.0.column c.row_in-row.result row_here (omega (arith, c.well_formed.0.0)) c.cell_in_row-said.result c.cell_in_row-said.ensures in
+    let words_here : (let a = c.args in cell_words (set_says (order_by c.edition_in-o.result.msf) a.f.now a.s) c.cell_in_row-said.result ≡ answer_of a.f.now (layout_by a.l) (ask_words a.i (a.j + c.loop-m.m) [])) = let a = c.args in
+    let o = c.edition_in-o in
+    words_by_lem a.f.now (layout_by a.l) a.i (a.j + c.loop-m.m) o.result o.ensures c.cell_in_row-said.result said_here a.s c.requires.0.set in
+    let found_here : (let a = c.args in c.ended_by-e.result ≡ words_by (answer_of a.f.now (layout_by a.l) (ask_words a.i (a.j + c.loop-m.m) []))) = let a = c.args in
+    let f = a.f.now in
+    c.ended_by-e.ensures
+    ∙ ap (ended_by f) c.cell_place-w.ensures
+    ∙ sym (cell_ended (order_by c.edition_in-o.result.msf) f a.s c.cell_in_row-said.result)
+    ∙ ap words_by words_here in
+    let a = c.args in (
+      omega (arith, c.loop-m-test.true),
+      filled_on c.loop-m.invariant.1 (omega (arith, room_here, filled_long c.loop-m.invariant.1)) _ _
+          (words_means a.f.now (layout_by a.l) a.i (a.j + c.loop-m.m) found_here) c.put_words.ensures,
       c.listed-had.ensures.0,
       c.listed-had.ensures.1,
     )

@@ -12,20 +12,26 @@ pub loop-i-init : goal.loop-i-init
 loop-i-init c = (omega arith, refl, refl, refl)
 
 pub put_column-requires : goal.put_column-requires
-put_column-requires c = let l = c.loop-i in
-    let b = (let it : (let a = c.args in let i = c.loop-i.i in runs_size a.t.now i + run_size (kind_at a.t.now i) (count_at a.t.now i) ≤ a.w) = let a = c.args in
-    omega (arith, size_up a.t.now c.loop-i.i a.r c.loop-i-test.true, c.requires.2) in it) in
+put_column-requires c =
+    let fits : (let a = c.args in let i = c.loop-i.i in runs_size a.t.now i + run_size (kind_at a.t.now i) (count_at a.t.now i) ≤ a.w) = let a = c.args in
+    omega (arith, size_up a.t.now c.loop-i.i a.r c.loop-i-test.true, c.requires.2) in
+    let l = c.loop-i in
+    let b = fits in
     (c.requires.0, omega (arith, l.invariant.3, c.requires.1), omega (arith, l.invariant.1), c.requires.4)
 
 pub overflow_add-a : goal.overflow_add-a
-overflow_add-a c = let b = (let it : (let a = c.args in let i = c.loop-i.i in runs_size a.t.now i + run_size (kind_at a.t.now i) (count_at a.t.now i) ≤ a.w) = let a = c.args in
-    omega (arith, size_up a.t.now c.loop-i.i a.r c.loop-i-test.true, c.requires.2) in it) in omega (arith, c.run_size-a.ensures, c.loop-i.invariant.1)
+overflow_add-a c =
+    let fits : (let a = c.args in let i = c.loop-i.i in runs_size a.t.now i + run_size (kind_at a.t.now i) (count_at a.t.now i) ≤ a.w) = let a = c.args in
+    omega (arith, size_up a.t.now c.loop-i.i a.r c.loop-i-test.true, c.requires.2) in
+    let b = fits in omega (arith, c.run_size-a.ensures, c.loop-i.invariant.1)
 
 pub loop-i-preserved : goal.loop-i-preserved
-loop-i-preserved c = let a = c.args in
+loop-i-preserved c =
+    let fits : (let a = c.args in let i = c.loop-i.i in runs_size a.t.now i + run_size (kind_at a.t.now i) (count_at a.t.now i) ≤ a.w) = let a = c.args in
+    omega (arith, size_up a.t.now c.loop-i.i a.r c.loop-i-test.true, c.requires.2) in
+    let a = c.args in
     let l = c.loop-i in
-    let b = (let it : (let a = c.args in let i = c.loop-i.i in runs_size a.t.now i + run_size (kind_at a.t.now i) (count_at a.t.now i) ≤ a.w) = let a = c.args in
-    omega (arith, size_up a.t.now c.loop-i.i a.r c.loop-i-test.true, c.requires.2) in it) in
+    let b = fits in
     let i = l.i in
     let is = columns_more a.h a.f.now a.t.now a.q a.w a.m i l.a a.out.now l.out _ l.invariant.1 l.invariant.2 c.put_column.ensures in (
       omega arith,

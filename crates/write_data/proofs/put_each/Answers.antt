@@ -12,7 +12,8 @@ pub block_rows-m-requires : goal.block_rows-m-requires
 block_rows-m-requires c = omega (arith, c.loop-j-test.true)
 
 pub overflow_mul-j : goal.overflow_mul-j
-overflow_mul-j c = let x = (let it : (let a = c.args in Next a.f.now c.loop-j.out a.g.p c.loop-j.j c.block_rows-m.result a.g.n a.w) = let a = c.args in
+overflow_mul-j c =
+    let next : (let a = c.args in Next a.f.now c.loop-j.out a.g.p c.loop-j.j c.block_rows-m.result a.g.n a.w) = let a = c.args in
     let l = c.loop-j in
     let e = c.block_rows-m.ensures in
     let b : l.j + c.block_rows-m.result ≤ a.g.n = omega (arith, e.1, c.loop-j-test.true) in
@@ -25,10 +26,12 @@ overflow_mul-j c = let x = (let it : (let a = c.args in Next a.f.now c.loop-j.ou
         block_room a.f.now a.g a.h c.requires.0 c.requires.4 a.w c.requires.2 a.t.now a.r l.j c.block_rows-m.result b c.requires.1 a.out.now c.requires.3,
         l.invariant.1.whole,
       );
-    } in it) in omega arith
+    } in
+    let x = next in omega arith
 
 pub slice_bounds-put_block-count : goal.slice_bounds-put_block-count
-slice_bounds-put_block-count c = let x = (let it : (let a = c.args in Next a.f.now c.loop-j.out a.g.p c.loop-j.j c.block_rows-m.result a.g.n a.w) = let a = c.args in
+slice_bounds-put_block-count c =
+    let next : (let a = c.args in Next a.f.now c.loop-j.out a.g.p c.loop-j.j c.block_rows-m.result a.g.n a.w) = let a = c.args in
     let l = c.loop-j in
     let e = c.block_rows-m.ensures in
     let b : l.j + c.block_rows-m.result ≤ a.g.n = omega (arith, e.1, c.loop-j-test.true) in
@@ -41,10 +44,12 @@ slice_bounds-put_block-count c = let x = (let it : (let a = c.args in Next a.f.n
         block_room a.f.now a.g a.h c.requires.0 c.requires.4 a.w c.requires.2 a.t.now a.r l.j c.block_rows-m.result b c.requires.1 a.out.now c.requires.3,
         l.invariant.1.whole,
       );
-    } in it) in omega arith
+    } in
+    let x = next in omega arith
 
 pub overflow_mul-j-in-loop-j : goal.overflow_mul-j-in-loop-j
-overflow_mul-j-in-loop-j c = let x = (let it : (let a = c.args in Next a.f.now c.loop-j.out a.g.p c.loop-j.j c.block_rows-m.result a.g.n a.w) = let a = c.args in
+overflow_mul-j-in-loop-j c =
+    let next : (let a = c.args in Next a.f.now c.loop-j.out a.g.p c.loop-j.j c.block_rows-m.result a.g.n a.w) = let a = c.args in
     let l = c.loop-j in
     let e = c.block_rows-m.ensures in
     let b : l.j + c.block_rows-m.result ≤ a.g.n = omega (arith, e.1, c.loop-j-test.true) in
@@ -57,10 +62,12 @@ overflow_mul-j-in-loop-j c = let x = (let it : (let a = c.args in Next a.f.now c
         block_room a.f.now a.g a.h c.requires.0 c.requires.4 a.w c.requires.2 a.t.now a.r l.j c.block_rows-m.result b c.requires.1 a.out.now c.requires.3,
         l.invariant.1.whole,
       );
-    } in it) in omega arith
+    } in
+    let x = next in omega arith
 
 pub overflow_add-g : goal.overflow_add-g
-overflow_add-g c = let x = (let it : (let a = c.args in Next a.f.now c.loop-j.out a.g.p c.loop-j.j c.block_rows-m.result a.g.n a.w) = let a = c.args in
+overflow_add-g c =
+    let next : (let a = c.args in Next a.f.now c.loop-j.out a.g.p c.loop-j.j c.block_rows-m.result a.g.n a.w) = let a = c.args in
     let l = c.loop-j in
     let e = c.block_rows-m.ensures in
     let b : l.j + c.block_rows-m.result ≤ a.g.n = omega (arith, e.1, c.loop-j-test.true) in
@@ -73,10 +80,12 @@ overflow_add-g c = let x = (let it : (let a = c.args in Next a.f.now c.loop-j.ou
         block_room a.f.now a.g a.h c.requires.0 c.requires.4 a.w c.requires.2 a.t.now a.r l.j c.block_rows-m.result b c.requires.1 a.out.now c.requires.3,
         l.invariant.1.whole,
       );
-    } in it) in omega arith
+    } in
+    let x = next in omega arith
 
 pub put_block-requires : goal.put_block-requires
-put_block-requires c = let x = (let it : (let a = c.args in Next a.f.now c.loop-j.out a.g.p c.loop-j.j c.block_rows-m.result a.g.n a.w) = let a = c.args in
+put_block-requires c =
+    let next : (let a = c.args in Next a.f.now c.loop-j.out a.g.p c.loop-j.j c.block_rows-m.result a.g.n a.w) = let a = c.args in
     let l = c.loop-j in
     let e = c.block_rows-m.ensures in
     let b : l.j + c.block_rows-m.result ≤ a.g.n = omega (arith, e.1, c.loop-j-test.true) in
@@ -89,7 +98,8 @@ put_block-requires c = let x = (let it : (let a = c.args in Next a.f.now c.loop-
         block_room a.f.now a.g a.h c.requires.0 c.requires.4 a.w c.requires.2 a.t.now a.r l.j c.block_rows-m.result b c.requires.1 a.out.now c.requires.3,
         l.invariant.1.whole,
       );
-    } in it) in (
+    } in
+    let x = next in (
       x.inside,
       simp (length-take, length-drop) (omega arith),
       c.requires.1.size ∙ sym c.requires.2,
@@ -98,7 +108,8 @@ put_block-requires c = let x = (let it : (let a = c.args in Next a.f.now c.loop-
     )
 
 pub overflow_add-j : goal.overflow_add-j
-overflow_add-j c = let x = (let it : (let a = c.args in Next a.f.now c.loop-j.out a.g.p c.loop-j.j c.block_rows-m.result a.g.n a.w) = let a = c.args in
+overflow_add-j c =
+    let next : (let a = c.args in Next a.f.now c.loop-j.out a.g.p c.loop-j.j c.block_rows-m.result a.g.n a.w) = let a = c.args in
     let l = c.loop-j in
     let e = c.block_rows-m.ensures in
     let b : l.j + c.block_rows-m.result ≤ a.g.n = omega (arith, e.1, c.loop-j-test.true) in
@@ -111,10 +122,12 @@ overflow_add-j c = let x = (let it : (let a = c.args in Next a.f.now c.loop-j.ou
         block_room a.f.now a.g a.h c.requires.0 c.requires.4 a.w c.requires.2 a.t.now a.r l.j c.block_rows-m.result b c.requires.1 a.out.now c.requires.3,
         l.invariant.1.whole,
       );
-    } in it) in omega arith
+    } in
+    let x = next in omega arith
 
 pub loop-j-smaller : goal.loop-j-smaller
-loop-j-smaller c = let x = (let it : (let a = c.args in Next a.f.now c.loop-j.out a.g.p c.loop-j.j c.block_rows-m.result a.g.n a.w) = let a = c.args in
+loop-j-smaller c =
+    let next : (let a = c.args in Next a.f.now c.loop-j.out a.g.p c.loop-j.j c.block_rows-m.result a.g.n a.w) = let a = c.args in
     let l = c.loop-j in
     let e = c.block_rows-m.ensures in
     let b : l.j + c.block_rows-m.result ≤ a.g.n = omega (arith, e.1, c.loop-j-test.true) in
@@ -127,10 +140,12 @@ loop-j-smaller c = let x = (let it : (let a = c.args in Next a.f.now c.loop-j.ou
         block_room a.f.now a.g a.h c.requires.0 c.requires.4 a.w c.requires.2 a.t.now a.r l.j c.block_rows-m.result b c.requires.1 a.out.now c.requires.3,
         l.invariant.1.whole,
       );
-    } in it) in omega arith
+    } in
+    let x = next in omega arith
 
 pub loop-j-preserved : goal.loop-j-preserved
-loop-j-preserved c = let x = (let it : (let a = c.args in Next a.f.now c.loop-j.out a.g.p c.loop-j.j c.block_rows-m.result a.g.n a.w) = let a = c.args in
+loop-j-preserved c =
+    let next : (let a = c.args in Next a.f.now c.loop-j.out a.g.p c.loop-j.j c.block_rows-m.result a.g.n a.w) = let a = c.args in
     let l = c.loop-j in
     let e = c.block_rows-m.ensures in
     let b : l.j + c.block_rows-m.result ≤ a.g.n = omega (arith, e.1, c.loop-j-test.true) in
@@ -143,7 +158,8 @@ loop-j-preserved c = let x = (let it : (let a = c.args in Next a.f.now c.loop-j.
         block_room a.f.now a.g a.h c.requires.0 c.requires.4 a.w c.requires.2 a.t.now a.r l.j c.block_rows-m.result b c.requires.1 a.out.now c.requires.3,
         l.invariant.1.whole,
       );
-    } in it) in
+    } in
+    let x = next in
     let a = c.args in
     let l = c.loop-j in (
       x.left,

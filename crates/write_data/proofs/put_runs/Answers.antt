@@ -15,26 +15,38 @@ unfolding strewn
 loop-i-init c = (omega arith, refl, refl)
 
 pub overflow_mul-b : goal.overflow_mul-b
-overflow_mul-b c = omega (arith, (let it : (let a = c.args in c.loop-i.i * a.w + a.w ≤ a.m * a.w) = let a = c.args in row_in_lem c.loop-i.i a.m a.w c.loop-i-test.true in it))
+overflow_mul-b c =
+    let room : (let a = c.args in c.loop-i.i * a.w + a.w ≤ a.m * a.w) = let a = c.args in row_in_lem c.loop-i.i a.m a.w c.loop-i-test.true in
+    omega (arith, room)
 
 pub overflow_add-b : goal.overflow_add-b
-overflow_add-b c = omega (arith, (let it : (let a = c.args in c.loop-i.i * a.w + a.w ≤ a.m * a.w) = let a = c.args in row_in_lem c.loop-i.i a.m a.w c.loop-i-test.true in it))
+overflow_add-b c =
+    let room : (let a = c.args in c.loop-i.i * a.w + a.w ≤ a.m * a.w) = let a = c.args in row_in_lem c.loop-i.i a.m a.w c.loop-i-test.true in
+    omega (arith, room)
 
 pub slice_bounds-put_run-count : goal.slice_bounds-put_run-count
-slice_bounds-put_run-count c = omega (arith, (let it : (let a = c.args in c.loop-i.i * a.w + a.w ≤ a.m * a.w) = let a = c.args in row_in_lem c.loop-i.i a.m a.w c.loop-i-test.true in it))
+slice_bounds-put_run-count c =
+    let room : (let a = c.args in c.loop-i.i * a.w + a.w ≤ a.m * a.w) = let a = c.args in row_in_lem c.loop-i.i a.m a.w c.loop-i-test.true in
+    omega (arith, room)
 
 pub overflow_add-q : goal.overflow_add-q
-overflow_add-q c = omega (arith, (let it : (let a = c.args in c.loop-i.i * a.w + a.w ≤ a.m * a.w) = let a = c.args in row_in_lem c.loop-i.i a.m a.w c.loop-i-test.true in it))
+overflow_add-q c =
+    let room : (let a = c.args in c.loop-i.i * a.w + a.w ≤ a.m * a.w) = let a = c.args in row_in_lem c.loop-i.i a.m a.w c.loop-i-test.true in
+    omega (arith, room)
 
 pub put_run-requires : goal.put_run-requires
-put_run-requires c = let r = (let it : (let a = c.args in c.loop-i.i * a.w + a.w ≤ a.m * a.w) = let a = c.args in row_in_lem c.loop-i.i a.m a.w c.loop-i-test.true in it) in (omega arith, simp (length-take, length-drop) (omega arith), c.requires.3)
+put_run-requires c =
+    let room : (let a = c.args in c.loop-i.i * a.w + a.w ≤ a.m * a.w) = let a = c.args in row_in_lem c.loop-i.i a.m a.w c.loop-i-test.true in
+    let r = room in (omega arith, simp (length-take, length-drop) (omega arith), c.requires.3)
 
 pub loop-i-preserved : goal.loop-i-preserved
 unfolding strewn
-loop-i-preserved c = let a = c.args in
+loop-i-preserved c =
+    let room : (let a = c.args in c.loop-i.i * a.w + a.w ≤ a.m * a.w) = let a = c.args in row_in_lem c.loop-i.i a.m a.w c.loop-i-test.true in
+    let a = c.args in
     let i = c.loop-i.i in
     let b = i * a.w + a.a in
-    let r = (let it : (let a = c.args in c.loop-i.i * a.w + a.w ≤ a.m * a.w) = let a = c.args in row_in_lem c.loop-i.i a.m a.w c.loop-i-test.true in it) in
+    let r = room in
     let n = run_length a.h c.requires.3 a.f.now a.s a.c (a.q + b) (omega arith) in
     let put = over_put b (run_size a.s a.c) (run_bytes a.h a.s a.c a.f.now (a.q + b)) c.loop-i.out _ n (omega arith) c.put_run.ensures in (
       omega arith,

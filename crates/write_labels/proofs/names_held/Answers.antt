@@ -12,12 +12,16 @@ loop-at-init c =
     holding_start a.tagged (order_by a.msf) a.w a.f.now a.tow a.p a.q c.requires.0.list c.requires.0.stand
 
 pub overflow_add-at : goal.overflow_add-at
-overflow_add-at c = let h = ((let it : (let a = c.args in Turn a.tagged (order_by a.msf) a.w a.f.now c.loop-at.at a.q c.loop-at.invariant.left) = let a = c.args in
-    holding_turn a.tagged (order_by a.msf) a.w a.f.now a.tow a.p a.q c.loop-at.invariant (omega arith) in it)).inside in record { fits = omega arith }
+overflow_add-at c =
+    let next : (let a = c.args in Turn a.tagged (order_by a.msf) a.w a.f.now c.loop-at.at a.q c.loop-at.invariant.left) = let a = c.args in
+    holding_turn a.tagged (order_by a.msf) a.w a.f.now a.tow a.p a.q c.loop-at.invariant (omega arith) in
+    let h = next.inside in record { fits = omega arith }
 
 pub text_len-requires : goal.text_len-requires
-text_len-requires c = let h = ((let it : (let a = c.args in Turn a.tagged (order_by a.msf) a.w a.f.now c.loop-at.at a.q c.loop-at.invariant.left) = let a = c.args in
-    holding_turn a.tagged (order_by a.msf) a.w a.f.now a.tow a.p a.q c.loop-at.invariant (omega arith) in it)).inside in omega arith
+text_len-requires c =
+    let next : (let a = c.args in Turn a.tagged (order_by a.msf) a.w a.f.now c.loop-at.at a.q c.loop-at.invariant.left) = let a = c.args in
+    holding_turn a.tagged (order_by a.msf) a.w a.f.now a.tow a.p a.q c.loop-at.invariant (omega arith) in
+    let h = next.inside in omega arith
 
 pub returns-then-tow-text_len : goal.returns-then-tow-text_len
 returns-then-tow-text_len c =
@@ -27,25 +31,29 @@ returns-then-tow-text_len c =
     (omega (arith, c.open_size-name.ensures.0)) x.ensures.is (omega arith)
 
 pub table_len-t-requires : goal.table_len-t-requires
-table_len-t-requires c = let h = ((let it : (let a = c.args in Turn a.tagged (order_by a.msf) a.w a.f.now c.loop-at.at a.q c.loop-at.invariant.left) = let a = c.args in
-    holding_turn a.tagged (order_by a.msf) a.w a.f.now a.tow a.p a.q c.loop-at.invariant (omega arith) in it)).inside in omega arith
+table_len-t-requires c =
+    let next : (let a = c.args in Turn a.tagged (order_by a.msf) a.w a.f.now c.loop-at.at a.q c.loop-at.invariant.left) = let a = c.args in
+    holding_turn a.tagged (order_by a.msf) a.w a.f.now a.tow a.p a.q c.loop-at.invariant (omega arith) in
+    let h = next.inside in omega arith
 
 pub overflow_add-at-in-loop-at-2 : goal.overflow_add-at-in-loop-at-2
 overflow_add-at-in-loop-at-2 c =
-    let N = (let it : (let a = c.args in Turn a.tagged (order_by a.msf) a.w a.f.now c.loop-at.at a.q c.loop-at.invariant.left) = let a = c.args in
-    holding_turn a.tagged (order_by a.msf) a.w a.f.now a.tow a.p a.q c.loop-at.invariant (omega arith) in it) in
+    let next : (let a = c.args in Turn a.tagged (order_by a.msf) a.w a.f.now c.loop-at.at a.q c.loop-at.invariant.left) = let a = c.args in
+    holding_turn a.tagged (order_by a.msf) a.w a.f.now a.tow a.p a.q c.loop-at.invariant (omega arith) in
+    let N = next in
     let h = N.inside in
     let k : c.table_len-t.result ≡ table_size N.first.entries = c.table_len-t.ensures.is ∙ N.wide in
     record { fits = omega arith }
 
 pub loop-at-preserved : goal.loop-at-preserved
 loop-at-preserved c =
+    let next : (let a = c.args in Turn a.tagged (order_by a.msf) a.w a.f.now c.loop-at.at a.q c.loop-at.invariant.left) = let a = c.args in
+    holding_turn a.tagged (order_by a.msf) a.w a.f.now a.tow a.p a.q c.loop-at.invariant (omega arith) in
     let a = c.args in
     let x = c.text_len in
     let s = c.frame_size-from in
     holding_next a.tagged (order_by a.msf) a.w a.f.now a.tow a.p a.q c.loop-at.invariant (omega arith) _ x.result
-    (omega (arith, c.open_size-name.ensures.0)) x.ensures.is (omega arith) s.result c.table_len-t.result s.ensures.0 (c.table_len-t.ensures.is ∙ ((let it : (let a = c.args in Turn a.tagged (order_by a.msf) a.w a.f.now c.loop-at.at a.q c.loop-at.invariant.left) = let a = c.args in
-    holding_turn a.tagged (order_by a.msf) a.w a.f.now a.tow a.p a.q c.loop-at.invariant (omega arith) in it)).wide)
+    (omega (arith, c.open_size-name.ensures.0)) x.ensures.is (omega arith) s.result c.table_len-t.result s.ensures.0 (c.table_len-t.ensures.is ∙ next.wide)
 
 pub returns : goal.returns
 returns c =

@@ -146,7 +146,7 @@ returns c =
     let T = fill ((table z w).slots b.entries) in
     let head = rw (room_read K x.result x.ensures.0).head at h.ensures in
     let l1 = puts_first {g = O} (open_puts a.totagged g.ensures) (omega (arith, D)) in
-    let l2 = laid_part {t = O} l1 H h.new.0 (4 + (a.tow + 3)) (head_long z a.tow w b.set_name) (omega (arith, D)) head in
-    let l3 = puts_part {t = O ++ H} l2 T k.new.0 k.result (table_puts K x.result x.ensures.0 k.ensures) (omega (arith, D)) in
-    let l4 = puts_part {t = (O ++ H) ++ T} l3 (closing a.totagged n_lbl) y.new.0 y.result (close_puts a.totagged y.ensures) (omega (arith, D)) in
+    let l2 = laid_part {t = O} l1 H h.new.out (4 + (a.tow + 3)) (head_long z a.tow w b.set_name) (omega (arith, D)) head in
+    let l3 = puts_part {t = O ++ H} l2 T k.new.out k.result (table_puts K x.result x.ensures.0 k.ensures) (omega (arith, D)) in
+    let l4 = puts_part {t = (O ++ H) ++ T} l3 (closing a.totagged n_lbl) y.new.out y.result (close_puts a.totagged y.ensures) (omega (arith, D)) in
     room_puts K (puts_of (laid_as l4 (sym (block_fill z a.tow a.totagged b)) refl))

@@ -58,7 +58,7 @@ overflow_add-n c =
     let k : c.table_len-t.result ≡ table_size N.first.entries = c.table_len-t.ensures.is ∙ N.wide in
     let x = c.frame_size-frame in
     let b = c.put_block-k in
-    let i = put_inside a.tagged (order_by a.msf) a.w a.f.now a.totagged (order_by a.tomsf) a.tow a.p a.q a.out.now l.invariant less x.result c.table_len-t.result b.result b.new.0 x.ensures.0 k b.ensures in
+    let i = put_inside a.tagged (order_by a.msf) a.w a.f.now a.totagged (order_by a.tomsf) a.tow a.p a.q a.out.now l.invariant less x.result c.table_len-t.result b.result b.new.out x.ensures.0 k b.ensures in
     record { fits = omega arith }
 
 pub overflow_add-at : goal.overflow_add-at
@@ -111,7 +111,7 @@ loop-at-preserved c =
     let k : c.table_len-t.result ≡ table_size N.first.entries = c.table_len-t.ensures.is ∙ N.wide in
     let x = c.frame_size-frame in
     let b = c.put_block-k in
-    putting_next a.tagged (order_by a.msf) a.w a.f.now a.totagged (order_by a.tomsf) a.tow a.p a.q a.out.now l.invariant less x.result c.table_len-t.result b.result b.new.0 x.ensures.0 k b.ensures
+    putting_next a.tagged (order_by a.msf) a.w a.f.now a.totagged (order_by a.tomsf) a.tow a.p a.q a.out.now l.invariant less x.result c.table_len-t.result b.result b.new.out x.ensures.0 k b.ensures
 
 pub shape_of-out : goal.shape_of-out
 shape_of-out c =

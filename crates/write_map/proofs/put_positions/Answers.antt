@@ -17,10 +17,10 @@ loop-i-preserved c =
     let l = c.loop-i in
     let n = c.put_number in
     let o = order_by a.msf in
-    let d = a.t2 in
+    let d = a.places in
     let few : length d ≡ 14 = c.requires.0 in
     let x = get_or d l.i 0 in
-    let more = laid_part l.invariant.2 (fill (num_slots o 8 x)) n.new.0 8 (number_length o 8 x) (omega arith) n.ensures in
+    let more = laid_part l.invariant.2 (fill (num_slots o 8 x)) n.new.out 8 (number_length o 8 x) (omega arith) n.ensures in
     (omega arith, omega arith, laid_as more (positions_turn o d l.i (omega arith)) refl)
 
 pub shape_of-out : goal.shape_of-out
@@ -30,6 +30,6 @@ pub returns : goal.returns
 returns c =
     let a = c.args in
     let l = c.loop-i in
-    let few : length a.t2 ≡ 14 = c.requires.0 in
+    let few : length a.places ≡ 14 = c.requires.0 in
     let ends : l.q ≡ 112 = omega arith in
-    (laid_as l.invariant.2 (positions_all (order_by a.msf) a.t2 l.i (omega arith)) ends).is
+    (laid_as l.invariant.2 (positions_all (order_by a.msf) a.places l.i (omega arith)) ends).is

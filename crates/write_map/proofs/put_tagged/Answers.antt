@@ -20,6 +20,6 @@ returns c =
     let few : length d ≡ 14 = c.requires.0 in
     let long : length (positions o d) ≡ 112 = omega (arith, positions_length o d, few) in
     let one = puts_first h.ensures (omega arith) in
-    let two = laid_part one (positions o d) n.new.0 112 long (omega arith) n.ensures in
-    let three = puts_part two (closing true n_map) t.new.0 t.result t.ensures (omega arith) in
+    let two = laid_part one (positions o d) n.new.out 112 long (omega arith) n.ensures in
+    let three = puts_part two (closing true n_map) t.new.out t.result t.ensures (omega arith) in
     puts_of (laid_as three (map_parts o d) refl)

@@ -17,6 +17,6 @@ returns c =
     let bytes = take a.len from in
     let long = cut_length a.f.now a.at a.len (omega arith) in
     let digits = num_bytes (order_by a.msf) a.w a.len in
-    let one = laid_first digits a.out.now n.new.0 a.w n.ensures (num_length (order_by a.msf) a.w a.len) (omega arith) in
-    let two = laid_part one bytes b.new.0 a.len long (omega arith) b.ensures in
+    let one = laid_first digits a.out.now n.new.out a.w n.ensures (num_length (order_by a.msf) a.w a.len) (omega arith) in
+    let two = laid_part one bytes b.new.out a.len long (omega arith) b.ensures in
     (refl, puts_of (laid_as two (counted_as (order_by a.msf) a.w a.len bytes long) refl))

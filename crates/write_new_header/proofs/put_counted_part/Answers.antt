@@ -18,6 +18,6 @@ returns c =
     let last = a.last.now in
     let bytes = counted_bytes (order_by a.msf) a.w (take a.len (drop a.at a.f.now)) in
     let one = puts_first h.ensures (omega arith) in
-    let two = puts_part one bytes n.new.0 n.result n.ensures.1 (omega arith) in
-    let three = puts_part two last t.new.0 t.result t.ensures (omega arith) in
+    let two = puts_part one bytes n.new.out n.result n.ensures.1 (omega arith) in
+    let three = puts_part two last t.new.out t.result t.ensures (omega arith) in
     (omega arith, puts_of (laid_as three (append_assoc first bytes last) refl))

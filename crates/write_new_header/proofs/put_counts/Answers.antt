@@ -17,5 +17,5 @@ returns c =
     let o = order_by a.msf in
     let first = tagged (opening true n_k) (closing true n_k) (num_bytes o 2 a.k) in
     let one = puts_first {g = first} x.ensures.1 (omega arith) in
-    let two = puts_part {t = first} one (tagged (opening true n_n) (closing true n_n) (num_bytes o a.w a.n)) y.new.0 y.result y.ensures.1 (omega arith) in
+    let two = puts_part {t = first} one (tagged (opening true n_n) (closing true n_n) (num_bytes o a.w a.n)) y.new.out y.result y.ensures.1 (omega arith) in
     (omega arith, puts_of (laid_as two (counts_as o a.w a.k a.n) refl))

@@ -24,8 +24,8 @@ returns c =
     let counts = count_bytes o e.n_width a.k a.n in
     let texts = text_bytes o e.label_length label stamp in
     let one = puts_first x.ensures.1 (omega (arith, room)) in
-    let two = puts_part one counts y.new.0 y.result y.ensures.1 (omega (arith, room)) in
-    let three = puts_part two texts z.new.0 z.result z.ensures.1 (omega (arith, room)) in
+    let two = puts_part one counts y.new.out y.result y.ensures.1 (omega (arith, room)) in
+    let three = puts_part two texts z.new.out z.result z.ensures.1 (omega (arith, room)) in
     puts_of
     (laid_as three
     (append_assoc begins counts texts ∙ new_parts e.number o e.n_width e.label_length e.label_max a.k a.n label stamp) refl)

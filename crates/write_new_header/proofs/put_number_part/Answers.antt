@@ -18,6 +18,6 @@ returns c =
     let last = a.last.now in
     let digits = num_bytes (order_by a.msf) a.w a.n in
     let one = puts_first h.ensures (omega arith) in
-    let two = laid_part one digits n.new.0 a.w (num_length (order_by a.msf) a.w a.n) (omega arith) n.ensures in
-    let three = puts_part two last t.new.0 t.result t.ensures (omega arith) in
+    let two = laid_part one digits n.new.out a.w (num_length (order_by a.msf) a.w a.n) (omega arith) n.ensures in
+    let three = puts_part two last t.new.out t.result t.ensures (omega arith) in
     (omega arith, puts_of (laid_as three (append_assoc first digits last) refl))

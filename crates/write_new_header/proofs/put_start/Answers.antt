@@ -17,6 +17,6 @@ returns c =
     let y = c.put_order in
     let o = order_by a.msf in
     let one = puts_first h.ensures (omega (arith, room)) in
-    let two = puts_part one (digits a.number) x.new.0 x.result x.ensures.1 (omega (arith, room)) in
-    let three = puts_part two (order_bytes o) y.new.0 y.result y.ensures.1 (omega (arith, room)) in
+    let two = puts_part one (digits a.number) x.new.out x.result x.ensures.1 (omega (arith, room)) in
+    let three = puts_part two (order_bytes o) y.new.out y.result y.ensures.1 (omega (arith, room)) in
     (omega arith, puts_of (laid_as three (start_as a.number o) refl))

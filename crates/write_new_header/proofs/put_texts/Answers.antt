@@ -23,5 +23,5 @@ returns c =
     let first = tagged (opening true n_label) (closing true n_label) (counted_bytes o a.w label) in
     let last = tagged (opening true n_timestamp) (closing true n_timestamp ++ closing true n_header) (counted_bytes o 1 stamp) in
     let one = puts_first {g = first} x.ensures.1 (omega (arith, room)) in
-    let two = puts_part {t = first} one last y.new.0 y.result y.ensures.1 (omega (arith, room)) in
+    let two = puts_part {t = first} one last y.new.out y.result y.ensures.1 (omega (arith, room)) in
     (omega arith, puts_of (laid_as two (texts_as o a.w label stamp) refl))

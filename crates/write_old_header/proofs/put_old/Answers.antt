@@ -24,5 +24,5 @@ returns c =
     let few : length stamp ≤ 17 = take_few a.slen 17 (drop a.sat a.f.now) (omega arith) in
     let first = old_marks e.number o ++ (num_bytes o 2 a.k ++ num_bytes o e.n_width a.n) in
     let one = puts_first {g = first} x.ensures.1 (omega arith) in
-    let two = puts_part {t = first} one (fill (text_slots (e.label_max + 1) label) ++ fill (text_slots 18 stamp)) y.new.0 y.result y.ensures.1 (omega arith) in
+    let two = puts_part {t = first} one (fill (text_slots (e.label_max + 1) label) ++ fill (text_slots 18 stamp)) y.new.out y.result y.ensures.1 (omega arith) in
     puts_of (laid_as two (old_parts e.number o e.n_width e.label_max a.k a.n label stamp few) refl)

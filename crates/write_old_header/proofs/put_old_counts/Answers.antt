@@ -16,6 +16,6 @@ returns c =
     let y = c.put_number-2 in
     let o = order_by a.msf in
     let one = puts_first h.ensures.1 (omega arith) in
-    let two = laid_part one (num_bytes o 2 a.k) x.new.0 2 (num_length o 2 a.k) (omega arith) x.ensures in
-    let three = laid_part two (num_bytes o a.w a.n) y.new.0 a.w (num_length o a.w a.n) (omega arith) y.ensures in
+    let two = laid_part one (num_bytes o 2 a.k) x.new.out 2 (num_length o 2 a.k) (omega arith) x.ensures in
+    let three = laid_part two (num_bytes o a.w a.n) y.new.out a.w (num_length o a.w a.n) (omega arith) y.ensures in
     (omega arith, puts_of (laid_as three (append_assoc (old_marks a.number o) (num_bytes o 2 a.k) (num_bytes o a.w a.n)) refl))

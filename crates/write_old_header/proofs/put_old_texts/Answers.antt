@@ -12,5 +12,5 @@ returns c =
     let y = c.put_padded in
     let first = fill (text_slots a.w (take a.llen (drop a.lat a.f.now))) in
     let one = puts_first {g = first} x.ensures.1 (omega arith) in
-    let two = puts_part {t = first} one (fill (text_slots 18 (take a.slen (drop a.sat a.f.now)))) y.new.0 y.result y.ensures.1 (omega arith) in
+    let two = puts_part {t = first} one (fill (text_slots 18 (take a.slen (drop a.sat a.f.now)))) y.new.out y.result y.ensures.1 (omega arith) in
     (omega arith, puts_of two)

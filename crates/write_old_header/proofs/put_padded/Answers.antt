@@ -15,6 +15,6 @@ returns c =
     let from = drop a.at a.f.now in
     let long = cut_length a.f.now a.at a.len (omega arith) in
     let ends : a.len + (a.w - a.len) ≡ a.w = omega arith in
-    let one = laid_first (take a.len from) a.out.now b.new.0 a.len b.ensures long (omega arith) in
-    let two = laid_part one (replicate (a.w - a.len) 0) z.new.0 (a.w - a.len) (length-replicate _ 0) (omega arith) z.ensures in
+    let one = laid_first (take a.len from) a.out.now b.new.out a.len b.ensures long (omega arith) in
+    let two = laid_part one (replicate (a.w - a.len) 0) z.new.out (a.w - a.len) (length-replicate _ 0) (omega arith) z.ensures in
     (refl, puts_of (laid_as two (padded_as a.w a.len (take a.len from) long (omega arith)) ends))

@@ -10,4 +10,4 @@ returns c =
     let s = c.sweep in
     let a = c.args in
     let offs = read_times (number (order_by a.msf) 4) a.n a.f.now a.p in
-    area_done a.out.now z.new.0 k.new.0 s.new.0 a.f.now offs a.t a.m z.ensures k.ensures s.ensures
+    area_done a.out.now z.new.out k.new.out s.new.out a.f.now offs a.t a.m z.ensures k.ensures s.ensures

@@ -11,5 +11,5 @@ returns c =
     let x = c.put_number in
     let y = c.put_number-2 in
     let z = order_by a.to in
-    let l1 = laid_part (laid_none a.out.now) (fill (num_slots z 4 a.n)) x.new.0 4 refl (omega arith) x.ensures in
-    (laid_part l1 (fill (num_slots z 4 a.m)) y.new.0 4 refl (omega arith) y.ensures).is
+    let l1 = laid_part (laid_none a.out.now) (fill (num_slots z 4 a.n)) x.new.out 4 refl (omega arith) x.ensures in
+    (laid_part l1 (fill (num_slots z 4 a.m)) y.new.out 4 refl (omega arith) y.ensures).is

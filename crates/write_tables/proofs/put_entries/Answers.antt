@@ -16,6 +16,6 @@ returns c =
     let z = order_by a.to in
     let f = a.f.now in
     let n = a.n in
-    let l1 = laid_part (laid_none a.out.now) (numbers_fill o z f n a.p) x.new.0 (n * 4) (numbers_length o z f n a.p) (omega arith) x.ensures in
+    let l1 = laid_part (laid_none a.out.now) (numbers_fill o z f n a.p) x.new.out (n * 4) (numbers_length o z f n a.p) (omega arith) x.ensures in
     let l2 = laid_as {b = n * 4} l1 refl (omega arith) in
-    (laid_part l2 (numbers_fill o z f n (a.p + n * 4)) y.new.0 (n * 4) (numbers_length o z f n (a.p + n * 4)) (omega arith) y.ensures).is
+    (laid_part l2 (numbers_fill o z f n (a.p + n * 4)) y.new.out (n * 4) (numbers_length o z f n (a.p + n * 4)) (omega arith) y.ensures).is

@@ -64,8 +64,8 @@ returns c =
     let h = room_inside o f p n m _ c.requires in
     let counts = fill (num_slots z 4 n) ++ fill (num_slots z 4 m) in
     let entries = numbers_fill o z f n (p + 8) ++ numbers_fill o z f n (p + 8 + n * 4) in
-    let l1 = laid_part (laid_none a.out.now) counts x.new.0 8 refl (omega (arith, h)) x.ensures in
-    let l2 = laid_part {t = counts} l1 entries y.new.0 (n * 4 + n * 4) (entries_length o z f n (p + 8)) (omega (arith, h)) y.ensures in
+    let l1 = laid_part (laid_none a.out.now) counts x.new.out 8 refl (omega (arith, h)) x.ensures in
+    let l2 = laid_part {t = counts} l1 entries y.new.out (n * 4 + n * 4) (entries_length o z f n (p + 8)) (omega (arith, h)) y.ensures in
     let l3 = laid_as {t = counts ++ entries} {b = 8 + n * 4 + n * 4} l2 refl (omega arith) in
-    let l4 = laid_part {t = counts ++ entries} l3 (area_fill o f p n m) w.new.0 m (length_tab m _) (omega (arith, h)) w.ensures in
+    let l4 = laid_part {t = counts ++ entries} l3 (area_fill o f p n m) w.new.out m (length_tab m _) (omega (arith, h)) w.ensures in
     record { all = λ t T. puts_of (laid_as l4 (table_parts o f z p n m t T) refl) }

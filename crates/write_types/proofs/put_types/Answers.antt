@@ -44,7 +44,7 @@ loop-i-preserved c =
     let x = c.field_at-x in
     let k = c.code_of-c in
     let g = c.put_number in
-    (omega arith, omega arith, types_turn a.tagged (order_by a.msf) a.f.now a.p a.totagged (order_by a.tomsf) w c.code_width-w.ensures a.k c.loop-i.i c.requires.0 (omega arith) x.result x.ensures k.result k.ensures c.loop-i.invariant.2 (omega arith) g.new.0 g.ensures)
+    (omega arith, omega arith, types_turn a.tagged (order_by a.msf) a.f.now a.p a.totagged (order_by a.tomsf) w c.code_width-w.ensures a.k c.loop-i.i c.requires.0 (omega arith) x.result x.ensures k.result k.ensures c.loop-i.invariant.2 (omega arith) g.new.out g.ensures)
 
 pub shape_of-out : goal.shape_of-out
 shape_of-out c = c.loop-i.invariant.2.whole
