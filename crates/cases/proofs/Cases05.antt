@@ -2,7 +2,7 @@
 use mathlib.Core.Path.{refl}
 use Prim.Native.Nat.{ℕ}
 use mathlib.Core.List.{List, [], ◌∷◌}
-use Rattle.cases.specs.Line.{Line, refused, accepted, MSF, LSF, bytes, Case, Agree}
+use Rattle.cases.specs.Line.{refused, accepted, MSF, LSF, bytes, Case, Agree}
 
 c_117_msf_cut_546 : List ℕ
 c_117_msf_cut_546 =

@@ -8,209 +8,214 @@ ghost use Rattle.std.specs.Prelude.{◌≤◌};
 use cell::Cell;
 use checking::Layout;
 use codes::Kind;
+use std::io;
+use std::io::{Read, Write};
 
 // Writes a number and a space.
-fn say_number(n: u64) {
-    io::print_decimal(1, n);
-    printing::say(b" ");
+fn say_number<W: Write>(out: &mut W, n: u64) -> io::Result<()> {
+    printing::say_decimal(out, n)?;
+    printing::say(out, b" ")
 }
 
 // Writes a refusal, where there is one; and whether there is.
-fn refused(code: u8) -> bool {
+fn refused<W: Write>(out: &mut W, code: u8) -> io::Result<bool> {
     if code == 0 {
-        return false;
+        return Ok(false);
     }
-    printing::say(b"refused ");
-    io::print_decimal(1, code as u64);
-    printing::say(b"\n");
-    true
+    printing::say(out, b"refused ")?;
+    printing::say_decimal(out, code as u64)?;
+    printing::say(out, b"\n")?;
+    Ok(true)
 }
 
 // The line of a number.
-fn number_line(r: answers::Number) {
-    if refused(r.code) {
-        return;
+fn number_line<W: Write>(out: &mut W, r: answers::Number) -> io::Result<()> {
+    if refused(out, r.code)? {
+        return Ok(());
     }
-    io::print_decimal(1, r.value);
-    printing::say(b"\n");
+    printing::say_decimal(out, r.value)?;
+    printing::say(out, b"\n")
 }
 
 // The line of a yes or no.
-fn mark_line(r: text_facts::Mark) {
-    if refused(r.code) {
-        return;
+fn mark_line<W: Write>(out: &mut W, r: text_facts::Mark) -> io::Result<()> {
+    if refused(out, r.code)? {
+        return Ok(());
     }
     if r.yes {
-        printing::say(b"yes\n");
+        printing::say(out, b"yes\n")?;
     } else {
-        printing::say(b"no\n");
+        printing::say(out, b"no\n")?;
     }
+    Ok(())
 }
 
 // Writes a type.
-fn say_type(kind: Kind, width: usize) {
+fn say_type<W: Write>(out: &mut W, kind: Kind, width: usize) -> io::Result<()> {
     match kind {
         Kind::Text => {
-            printing::say(b"text ");
-            io::print_decimal(1, width as u64);
+            printing::say(out, b"text ")?;
+            printing::say_decimal(out, width as u64)?;
         }
-        Kind::StrL => printing::say(b"strL"),
-        Kind::Byte => printing::say(b"byte"),
-        Kind::Int => printing::say(b"int"),
-        Kind::Long => printing::say(b"long"),
-        Kind::Float => printing::say(b"float"),
-        Kind::Double => printing::say(b"double"),
-        Kind::Unknown => printing::say(b"unknown"),
+        Kind::StrL => printing::say(out, b"strL")?,
+        Kind::Byte => printing::say(out, b"byte")?,
+        Kind::Int => printing::say(out, b"int")?,
+        Kind::Long => printing::say(out, b"long")?,
+        Kind::Float => printing::say(out, b"float")?,
+        Kind::Double => printing::say(out, b"double")?,
+        Kind::Unknown => printing::say(out, b"unknown")?,
     }
+    Ok(())
 }
 
 // The line of a type.
-fn type_line(r: variable_facts::Typed) {
-    if refused(r.code) {
-        return;
+fn type_line<W: Write>(out: &mut W, r: variable_facts::Typed) -> io::Result<()> {
+    if refused(out, r.code)? {
+        return Ok(());
     }
     let kind = r.kind;
-    say_type(kind, r.width);
-    printing::say(b"\n");
+    say_type(out, kind, r.width)?;
+    printing::say(out, b"\n")
 }
 
 // The line of a part of the file: place, length and bytes.
-fn part_line(f: &[u8], r: answers::Part) {
-    if refused(r.code) {
-        return;
+fn part_line<W: Write>(out: &mut W, f: &[u8], r: answers::Part) -> io::Result<()> {
+    if refused(out, r.code)? {
+        return Ok(());
     }
-    printing::say(b"text ");
-    say_number(r.at);
-    say_number(r.len);
-    printing::say(answers::part_of(f, r.code, r.at, r.len));
-    printing::say(b"\n");
+    printing::say(out, b"text ")?;
+    say_number(out, r.at)?;
+    say_number(out, r.len)?;
+    printing::say(out, answers::part_of(f, r.code, r.at, r.len))?;
+    printing::say(out, b"\n")
 }
 
 // The line of a column.
-fn column_line(r: columns::Column) {
-    if refused(r.code) {
-        return;
+fn column_line<W: Write>(out: &mut W, r: columns::Column) -> io::Result<()> {
+    if refused(out, r.code)? {
+        return Ok(());
     }
-    printing::say(b"column ");
-    say_number(r.offset);
-    say_number(r.row);
+    printing::say(out, b"column ")?;
+    say_number(out, r.offset)?;
+    say_number(out, r.row)?;
     let kind = r.kind;
-    say_type(kind, r.width);
-    printing::say(b"\n");
+    say_type(out, kind, r.width)?;
+    printing::say(out, b"\n")
 }
 
 // Writes a text cell.
-fn say_words(f: &[u8], p: u64, n: u64) {
-    printing::say(b"text ");
-    say_number(p);
-    say_number(n);
-    printing::say(answers::part_of(f, 0, p, n));
+fn say_words<W: Write>(out: &mut W, f: &[u8], p: u64, n: u64) -> io::Result<()> {
+    printing::say(out, b"text ")?;
+    say_number(out, p)?;
+    say_number(out, n)?;
+    printing::say(out, answers::part_of(f, 0, p, n))
 }
 
 // Writes what a cell says.
-fn say_cell(f: &[u8], c: Cell) {
+fn say_cell<W: Write>(out: &mut W, f: &[u8], c: Cell) -> io::Result<()> {
     match c {
         Cell::Whole(x) => {
-            printing::say(b"whole ");
-            printing::say_signed(x);
+            printing::say(out, b"whole ")?;
+            printing::say_signed(out, x)?;
         }
         Cell::Single(x) => {
-            printing::say(b"float ");
-            printing::say_bits(std::num::f32_to_f64_with_nan(x));
+            printing::say(out, b"float ")?;
+            printing::say_bits(out, std::num::f32_to_f64_with_nan(x))?;
         }
         Cell::Double(x) => {
-            printing::say(b"double ");
-            printing::say_bits(x);
+            printing::say(out, b"double ")?;
+            printing::say_bits(out, x)?;
         }
         Cell::Letter(k) => {
-            printing::say(b"letter ");
-            io::print_decimal(1, k as u64);
+            printing::say(out, b"letter ")?;
+            printing::say_decimal(out, k as u64)?;
         }
-        Cell::Between => printing::say(b"between"),
-        Cell::Outside => printing::say(b"outside"),
-        Cell::Text(p, n) => say_words(f, p as u64, n as u64),
+        Cell::Between => printing::say(out, b"between")?,
+        Cell::Outside => printing::say(out, b"outside")?,
+        Cell::Text(p, n) => say_words(out, f, p as u64, n as u64)?,
         Cell::Reference(v, o) => {
-            printing::say(b"link ");
-            say_number(v);
-            io::print_decimal(1, o);
+            printing::say(out, b"link ")?;
+            say_number(out, v)?;
+            printing::say_decimal(out, o)?;
         }
     }
+    Ok(())
 }
 
 // The line of a cell.
-fn cell_line(f: &[u8], r: cells::Said) {
-    if refused(r.code) {
-        return;
+fn cell_line<W: Write>(out: &mut W, f: &[u8], r: cells::Said) -> io::Result<()> {
+    if refused(out, r.code)? {
+        return Ok(());
     }
     let c = r.cell;
-    say_cell(f, c);
-    printing::say(b"\n");
+    say_cell(out, f, c)?;
+    printing::say(out, b"\n")
 }
 
 // The line of a long string.
-fn long_line(f: &[u8], r: walks::Long) {
-    if refused(r.code) {
-        return;
+fn long_line<W: Write>(out: &mut W, f: &[u8], r: walks::Long) -> io::Result<()> {
+    if refused(out, r.code)? {
+        return Ok(());
     }
-    printing::say(b"long ");
-    say_number(r.kind as u64);
-    say_number(r.at);
-    say_number(r.len);
-    printing::say(answers::part_of(f, r.code, r.at, r.len));
-    printing::say(b"\n");
+    printing::say(out, b"long ")?;
+    say_number(out, r.kind as u64)?;
+    say_number(out, r.at)?;
+    say_number(out, r.len)?;
+    printing::say(out, answers::part_of(f, r.code, r.at, r.len))?;
+    printing::say(out, b"\n")
 }
 
 // The line of label words; the plain text is `plain`.
-fn words_line(f: &[u8], l: Layout, i: u64, j: u64) {
+fn words_line<W: Write>(out: &mut W, f: &[u8], l: Layout, i: u64, j: u64) -> io::Result<()> {
     let r = label_words::label_words(f, l, i, j);
-    if refused(r.code) {
-        return;
+    if refused(out, r.code)? {
+        return Ok(());
     }
     if r.found {
-        printing::say(b"file ");
-        say_number(r.at);
-        say_number(r.len);
+        printing::say(out, b"file ")?;
+        say_number(out, r.at)?;
+        say_number(out, r.len)?;
     } else {
-        printing::say(b"plain ");
+        printing::say(out, b"plain ")?;
     }
-    printing::say(label_words::words(f, b"plain", l, i, j));
-    printing::say(b"\n");
+    printing::say(out, label_words::words(f, b"plain", l, i, j))?;
+    printing::say(out, b"\n")
 }
 
 // The lines of the header facts.
-fn ask_header(f: &[u8], l: Layout) {
-    number_line(header_facts::edition(l));
-    number_line(header_facts::order(l));
-    number_line(header_facts::variables(l));
-    number_line(header_facts::rows(l));
-    part_line(f, header_facts::label(f, l));
-    part_line(f, header_facts::stamp(f, l));
+fn ask_header<W: Write>(out: &mut W, f: &[u8], l: Layout) -> io::Result<()> {
+    number_line(out, header_facts::edition(l))?;
+    number_line(out, header_facts::order(l))?;
+    number_line(out, header_facts::variables(l))?;
+    number_line(out, header_facts::rows(l))?;
+    part_line(out, f, header_facts::label(f, l))?;
+    part_line(out, f, header_facts::stamp(f, l))
 }
 
 // The lines of a variable's facts.
-fn ask_variable(f: &[u8], l: Layout, i: u64) {
-    type_line(variable_facts::var_type(f, l, i));
-    part_line(f, text_facts::name(f, l, i));
-    part_line(f, text_facts::format(f, l, i));
-    part_line(f, text_facts::set_name(f, l, i));
-    part_line(f, text_facts::var_label(f, l, i));
-    mark_line(text_facts::date_mark(f, l, i));
-    number_line(variable_facts::sort_place(f, l, i));
-    column_line(columns::column_of(f, l, i));
+fn ask_variable<W: Write>(out: &mut W, f: &[u8], l: Layout, i: u64) -> io::Result<()> {
+    type_line(out, variable_facts::var_type(f, l, i))?;
+    part_line(out, f, text_facts::name(f, l, i))?;
+    part_line(out, f, text_facts::format(f, l, i))?;
+    part_line(out, f, text_facts::set_name(f, l, i))?;
+    part_line(out, f, text_facts::var_label(f, l, i))?;
+    mark_line(out, text_facts::date_mark(f, l, i))?;
+    number_line(out, variable_facts::sort_place(f, l, i))?;
+    column_line(out, columns::column_of(f, l, i))
 }
 
 // The lines of a cell's facts.
-fn ask_cell(f: &[u8], l: Layout, i: u64, j: u64) {
-    cell_line(f, cells::cell_of(f, l, i, j));
-    long_line(f, long_strings::long_string(f, l, i, j));
-    words_line(f, l, i, j);
+fn ask_cell<W: Write>(out: &mut W, f: &[u8], l: Layout, i: u64, j: u64) -> io::Result<()> {
+    cell_line(out, f, cells::cell_of(f, l, i, j))?;
+    long_line(out, f, long_strings::long_string(f, l, i, j))?;
+    words_line(out, f, l, i, j)
 }
 
 // The lines of all questions.
-fn ask_all(f: &[u8], l: Layout, i: u64, j: u64) {
-    ask_header(f, l);
-    ask_variable(f, l, i);
-    ask_cell(f, l, i, j);
+fn ask_all<W: Write>(out: &mut W, f: &[u8], l: Layout, i: u64, j: u64) -> io::Result<()> {
+    ask_header(out, f, l)?;
+    ask_variable(out, f, l, i)?;
+    ask_cell(out, f, l, i, j)
 }
 
 // Number `k` of a record.
@@ -248,27 +253,36 @@ fn room_for(n: u64, room: usize) -> usize
 }
 
 // Reads the file of a record and answers it.
-fn answer(file: &mut [u8], head: &[u8]) {
+fn answer<R: Read, W: Write>(
+    input: &mut R,
+    out: &mut W,
+    file: &mut [u8],
+    head: &[u8],
+) -> io::Result<()> {
     let n = room_for(number_of(head, 0), file.len());
-    io::read_full(0, &mut file[0..n]);
+    printing::read_full(input, &mut file[0..n])?;
     ask_all(
+        out,
         &file[0..n],
         layout_of(head),
         number_of(head, 19),
         number_of(head, 20),
-    );
+    )
 }
 
 // Answers the records, at most a billion.
-fn main() {
+fn main(rt: HostRuntime) -> io::Result<()> {
+    let mut input = rt.stdin();
+    let mut out = rt.stdout();
     let mut file = [0u8; 262144];
     let mut head = [0u8; 168];
     let mut left: u64 = 1000000000;
     while 0 < left {
-        if io::read_full(0, &mut head) < 168 {
-            return;
+        if printing::read_full(&mut input, &mut head)? < 168 {
+            return Ok(());
         }
-        answer(&mut file, &head);
+        answer(&mut input, &mut out, &mut file, &head)?;
         left -= 1;
     }
+    Ok(())
 }

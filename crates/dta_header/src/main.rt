@@ -3,48 +3,54 @@
 #![tactic(auto)]
 
 use checking::Layout;
+use std::io;
+use std::io::Write;
 
 // Writes the byte order.
-fn say_order(order: u64) {
+fn say_order<W: Write>(out: &mut W, order: u64) -> io::Result<()> {
     if order == 1 {
-        printing::say(b" MSF ");
+        printing::say(out, b" MSF ")?;
     } else {
-        printing::say(b" LSF ");
+        printing::say(out, b" LSF ")?;
     }
+    Ok(())
 }
 
 // Writes the line of an accepted file of `n` bytes.
-fn say_layout(l: Layout, n: usize) {
-    io::print_decimal(1, l.edition);
-    say_order(l.order);
-    io::print_decimal(1, l.k);
-    printing::say(b" ");
-    io::print_decimal(1, l.n);
-    printing::say(b" ");
-    io::print_decimal(1, n as u64);
-    printing::say(b"\n");
+fn say_layout<W: Write>(out: &mut W, l: Layout, n: usize) -> io::Result<()> {
+    printing::say_decimal(out, l.edition)?;
+    say_order(out, l.order)?;
+    printing::say_decimal(out, l.k)?;
+    printing::say(out, b" ")?;
+    printing::say_decimal(out, l.n)?;
+    printing::say(out, b" ")?;
+    printing::say_decimal(out, n as u64)?;
+    printing::say(out, b"\n")
 }
 
 // Writes the line of a file.
-fn say_file(f: &[u8]) {
+fn say_file<W: Write>(out: &mut W, f: &[u8]) -> io::Result<()> {
     let c = checking::check(f);
     if c.code == 0 {
-        say_layout(c.layout, f.len());
+        say_layout(out, c.layout, f.len())?;
     } else {
-        printing::say(b"refused ");
-        io::print_decimal(1, c.code as u64);
-        printing::say(b"\n");
+        printing::say(out, b"refused ")?;
+        printing::say_decimal(out, c.code as u64)?;
+        printing::say(out, b"\n")?;
     }
+    Ok(())
 }
 
-fn main() {
-    let mut file = io::large_buffer();
-    let n = io::read_full(0, &mut file);
+fn main(rt: HostRuntime) -> io::Result<()> {
+    let mut input = rt.stdin();
+    let mut out = rt.stdout();
+    let mut file = [0u8; 65536];
+    let n = printing::read_full(&mut input, &mut file)?;
     let mut more = [0u8; 1];
-    let m = io::read_full(0, &mut more);
+    let m = printing::read_full(&mut input, &mut more)?;
     if m == 0 {
-        say_file(&file[..n]);
+        say_file(&mut out, &file[..n])
     } else {
-        printing::say(b"too long\n");
+        printing::say(&mut out, b"too long\n")
     }
 }

@@ -7,25 +7,29 @@
 
 ghost use Rattle.std.specs.Prelude.{◌≤◌, length};
 
+use std::io;
+use std::io::{Read, Write};
+
 // Writes a number and a space.
-fn say_number(n: u64) {
-    io::print_decimal(1, n);
-    printing::say(b" ");
+fn say_number<W: Write>(lines: &mut W, n: u64) -> io::Result<()> {
+    printing::say_decimal(lines, n)?;
+    printing::say(lines, b" ")
 }
 
 // Writes a byte order and a space.
-fn say_order(order: u64) {
+fn say_order<W: Write>(lines: &mut W, order: u64) -> io::Result<()> {
     if order == 1 {
-        printing::say(b"MSF ");
+        printing::say(lines, b"MSF ")?;
     } else {
-        printing::say(b"LSF ");
+        printing::say(lines, b"LSF ")?;
     }
+    Ok(())
 }
 
 // Writes a number that ends a line.
-fn end_line(n: u64) {
-    io::print_decimal(1, n);
-    printing::say(b"\n");
+fn end_line<W: Write>(lines: &mut W, n: u64) -> io::Result<()> {
+    printing::say_decimal(lines, n)?;
+    printing::say(lines, b"\n")
 }
 
 // How many bytes of `n` there is room for.
@@ -59,34 +63,47 @@ fn checksum(f: &[u8]) -> u64 {
 }
 
 // Rewrites the first `n` bytes of `file`, writes the line, and leaves the result in `file`; its length, or `n` where it is refused.
-fn step(file: &mut [u8], out: &mut [u8], n: u64, edition: u64, order: u64) -> u64 {
+fn step<W: Write>(
+    lines: &mut W,
+    file: &mut [u8],
+    out: &mut [u8],
+    n: u64,
+    edition: u64,
+    order: u64,
+) -> io::Result<u64> {
     let m = room_for(n, file.len());
     let r = rewriting::rewrite(&file[0..m], edition, order, out);
-    say_number(edition);
-    say_order(order);
-    say_number(r.code as u64);
-    end_line(r.len);
+    say_number(lines, edition)?;
+    say_order(lines, order)?;
+    say_number(lines, r.code as u64)?;
+    end_line(lines, r.len)?;
     if r.code != 0 {
-        return n;
+        return Ok(n);
     }
     let k = room_for(r.len, out.len());
     copy(&out[0..k], file);
-    r.len
+    Ok(r.len)
 }
 
 // To an edition, in both byte orders.
-fn both_orders(file: &mut [u8], out: &mut [u8], n: u64, edition: u64) -> u64 {
-    let a = step(file, out, n, edition, 1);
-    step(file, out, a, edition, 2)
+fn both_orders<W: Write>(
+    lines: &mut W,
+    file: &mut [u8],
+    out: &mut [u8],
+    n: u64,
+    edition: u64,
+) -> io::Result<u64> {
+    let a = step(lines, file, out, n, edition, 1)?;
+    step(lines, file, out, a, edition, 2)
 }
 
 // Once around.
-fn round(file: &mut [u8], out: &mut [u8], n: u64) -> u64 {
-    let a = both_orders(file, out, n, 113);
-    let b = both_orders(file, out, a, 114);
-    let c = both_orders(file, out, b, 115);
-    let d = both_orders(file, out, c, 117);
-    both_orders(file, out, d, 118)
+fn round<W: Write>(lines: &mut W, file: &mut [u8], out: &mut [u8], n: u64) -> io::Result<u64> {
+    let a = both_orders(lines, file, out, n, 113)?;
+    let b = both_orders(lines, file, out, a, 114)?;
+    let c = both_orders(lines, file, out, b, 115)?;
+    let d = both_orders(lines, file, out, c, 117)?;
+    both_orders(lines, file, out, d, 118)
 }
 
 // The number of the file that is the first `m` bytes.
@@ -98,20 +115,25 @@ fn verdict_of(file: &[u8], m: usize) -> u8
 }
 
 // Answers a record: its file, of `n` bytes.
-fn answer(file: &mut [u8], out: &mut [u8], n: u64) {
+fn answer<R: Read, W: Write>(
+    input: &mut R,
+    lines: &mut W,
+    file: &mut [u8],
+    out: &mut [u8],
+    n: u64,
+) -> io::Result<()> {
     let m = room_for(n, file.len());
-    io::read_full(0, &mut file[0..m]);
+    printing::read_full(input, &mut file[0..m])?;
     let code = verdict_of(file, m);
     if code != 0 {
-        printing::say(b"refused ");
-        end_line(code as u64);
-        return;
+        printing::say(lines, b"refused ")?;
+        return end_line(lines, code as u64);
     }
-    let a = round(file, out, m as u64);
-    let b = round(file, out, a);
-    let c = round(file, out, b);
+    let a = round(lines, file, out, m as u64)?;
+    let b = round(lines, file, out, a)?;
+    let c = round(lines, file, out, b)?;
     let k = room_for(c, file.len());
-    end_line(checksum(&file[0..k]));
+    end_line(lines, checksum(&file[0..k]))
 }
 
 // The number at the start of a record.
@@ -123,16 +145,25 @@ fn number_of(head: &[u8]) -> u64 {
 }
 
 // Answers the records, at most a billion.
-fn main() {
+fn main(rt: HostRuntime) -> io::Result<()> {
+    let mut input = rt.stdin();
+    let mut lines = rt.stdout();
     let mut file = [0u8; 65536];
     let mut out = [0u8; 65536];
     let mut head = [0u8; 8];
     let mut left: u64 = 1000000000;
     while 0 < left {
-        if io::read_full(0, &mut head) < 8 {
-            return;
+        if printing::read_full(&mut input, &mut head)? < 8 {
+            return Ok(());
         }
-        answer(&mut file, &mut out, number_of(&head));
+        answer(
+            &mut input,
+            &mut lines,
+            &mut file,
+            &mut out,
+            number_of(&head),
+        )?;
         left -= 1;
     }
+    Ok(())
 }

@@ -9,125 +9,127 @@ ghost use Rattle.cell.specs.Cells.{Lettered, says};
 use cell::{Cell, Key};
 use codes::Kind;
 use search::Slot;
+use std::io;
+use std::io::Write;
 
 // Writes the byte order.
-fn say_order(msf: bool) {
+fn say_order<W: Write>(out: &mut W, msf: bool) -> io::Result<()> {
     if msf {
-        printing::say(b" MSF ");
+        printing::say(out, b" MSF ")?;
     } else {
-        printing::say(b" LSF ");
+        printing::say(out, b" LSF ")?;
     }
-}
-
-// A byte as a wider number.
-fn wide(x: u8) -> u64 {
-    x as u64
+    Ok(())
 }
 
 // Writes bytes in hexadecimal.
-fn say_bytes(t: &[u8]) {
+fn say_bytes<W: Write>(out: &mut W, t: &[u8]) -> io::Result<()> {
     let mut i = 0;
     while i < t.len() {
-        io::print_hex(1, wide(t[i]), 2);
+        printing::say_hex(out, t[i])?;
         i += 1;
     }
+    Ok(())
 }
 
 // Writes a float or double by the bits of a double with its value.
-fn say_double(x: f64) {
-    printing::say(b"number ");
-    printing::say_bits(x);
+fn say_double<W: Write>(out: &mut W, x: f64) -> io::Result<()> {
+    printing::say(out, b"number ")?;
+    printing::say_bits(out, x)
 }
 
 // Writes the letter of a missing value: `.`, or `.a` to `.z`.
-fn say_letter(k: u8) {
-    printing::say(b"letter .");
+fn say_letter<W: Write>(out: &mut W, k: u8) -> io::Result<()> {
+    printing::say(out, b"letter .")?;
     if 0 < k {
         if k <= 26 {
             let c = [96 + k];
-            printing::say(&c);
+            printing::say(out, &c)?;
         }
     }
+    Ok(())
 }
 
 // Writes what a cell says.
-fn say_cell(c: Cell) {
+fn say_cell<W: Write>(out: &mut W, c: Cell) -> io::Result<()> {
     match c {
         Cell::Whole(x) => {
-            printing::say(b"number ");
-            printing::say_signed(x);
+            printing::say(out, b"number ")?;
+            printing::say_signed(out, x)?;
         }
         Cell::Single(x) => {
-            say_double(std::num::f32_to_f64_with_nan(x));
+            say_double(out, std::num::f32_to_f64_with_nan(x))?;
         }
         Cell::Double(x) => {
-            say_double(x);
+            say_double(out, x)?;
         }
         Cell::Letter(k) => {
-            say_letter(k);
+            say_letter(out, k)?;
         }
         Cell::Between => {
-            printing::say(b"between");
+            printing::say(out, b"between")?;
         }
         Cell::Outside => {
-            printing::say(b"outside");
+            printing::say(out, b"outside")?;
         }
         Cell::Text(_, _) => {
-            printing::say(b"text");
+            printing::say(out, b"text")?;
         }
         Cell::Reference(_, _) => {
-            printing::say(b"reference");
+            printing::say(out, b"reference")?;
         }
     }
+    Ok(())
 }
 
 // Writes what a cell says and what it seeks.
-fn say_both(c: Cell)
+fn say_both<W: Write>(out: &mut W, c: Cell) -> io::Result<()>
     requires { Lettered (says c) }
 {
-    printing::say(b" ");
-    say_cell(c);
-    printing::say(b" seeks ");
+    printing::say(out, b" ")?;
+    say_cell(out, c)?;
+    printing::say(out, b" seeks ")?;
     let k = cell::key_of(c);
     match k {
         Key::Seeks(q) => {
-            printing::say_signed(q);
+            printing::say_signed(out, q)?;
         }
         Key::Nothing => {
-            printing::say(b"nothing");
+            printing::say(out, b"nothing")?;
         }
     }
-    printing::say(b"\n");
+    printing::say(out, b"\n")
 }
 
 // Writes the name of a kind.
-fn say_kind(kind: Kind) {
+fn say_kind<W: Write>(out: &mut W, kind: Kind) -> io::Result<()> {
     match kind {
         Kind::Text => {
-            printing::say(b"text");
+            printing::say(out, b"text")?;
         }
         Kind::StrL => {
-            printing::say(b"strL");
+            printing::say(out, b"strL")?;
         }
         Kind::Byte => {
-            printing::say(b"byte");
+            printing::say(out, b"byte")?;
         }
         Kind::Int => {
-            printing::say(b"int");
+            printing::say(out, b"int")?;
         }
         Kind::Long => {
-            printing::say(b"long");
+            printing::say(out, b"long")?;
         }
         Kind::Float => {
-            printing::say(b"float");
+            printing::say(out, b"float")?;
         }
         Kind::Double => {
-            printing::say(b"double");
+            printing::say(out, b"double")?;
         }
         Kind::Unknown => {
-            printing::say(b"unknown");
+            printing::say(out, b"unknown")?;
         }
     }
+    Ok(())
 }
 
 // Two bytes as a number.
@@ -136,52 +138,53 @@ fn two(a: u8, b: u8) -> u16 {
 }
 
 // The line of a cell: a row has 1 for MSF, 117's type code, and eight bytes.
-fn cell_line(row: &[u8]) {
+fn cell_line<W: Write>(out: &mut W, row: &[u8]) -> io::Result<()> {
     if row.len() < 11 {
-        return;
+        return Ok(());
     }
     let msf = row[0] == 1;
     let field = codes::field_of(true, two(row[1], row[2]));
     let kind = field.kind;
-    say_kind(kind);
-    say_order(msf);
+    say_kind(out, kind)?;
+    say_order(out, msf)?;
     match kind {
         Kind::Byte => {
-            say_bytes(&row[3..4]);
-            say_both(cell::cell_at(row, 3, Kind::Byte, 1, 4, 4, msf));
+            say_bytes(out, &row[3..4])?;
+            say_both(out, cell::cell_at(row, 3, Kind::Byte, 1, 4, 4, msf))?;
         }
         Kind::Int => {
-            say_bytes(&row[3..5]);
-            say_both(cell::cell_at(row, 3, Kind::Int, 2, 4, 4, msf));
+            say_bytes(out, &row[3..5])?;
+            say_both(out, cell::cell_at(row, 3, Kind::Int, 2, 4, 4, msf))?;
         }
         Kind::Long => {
-            say_bytes(&row[3..7]);
-            say_both(cell::cell_at(row, 3, Kind::Long, 4, 4, 4, msf));
+            say_bytes(out, &row[3..7])?;
+            say_both(out, cell::cell_at(row, 3, Kind::Long, 4, 4, 4, msf))?;
         }
         Kind::Float => {
-            say_bytes(&row[3..7]);
-            say_both(cell::cell_at(row, 3, Kind::Float, 4, 4, 4, msf));
+            say_bytes(out, &row[3..7])?;
+            say_both(out, cell::cell_at(row, 3, Kind::Float, 4, 4, 4, msf))?;
         }
         Kind::Double => {
-            say_bytes(&row[3..11]);
-            say_both(cell::cell_at(row, 3, Kind::Double, 8, 4, 4, msf));
+            say_bytes(out, &row[3..11])?;
+            say_both(out, cell::cell_at(row, 3, Kind::Double, 8, 4, 4, msf))?;
         }
         Kind::Text => {
-            printing::say(b"\n");
+            printing::say(out, b"\n")?;
         }
         Kind::StrL => {
-            printing::say(b"\n");
+            printing::say(out, b"\n")?;
         }
         Kind::Unknown => {
-            printing::say(b"\n");
+            printing::say(out, b"\n")?;
         }
     }
+    Ok(())
 }
 
 // The line of a type code: a row has 1 for a tagged edition, and the code.
-fn code_line(row: &[u8]) {
+fn code_line<W: Write>(out: &mut W, row: &[u8]) -> io::Result<()> {
     if row.len() < 3 {
-        return;
+        return Ok(());
     }
     let tagged = row[0] == 1;
     let code = two(row[1], row[2]);
@@ -189,16 +192,16 @@ fn code_line(row: &[u8]) {
     let kind = field.kind;
     let width = field.width;
     if tagged {
-        printing::say(b"117 type ");
+        printing::say(out, b"117 type ")?;
     } else {
-        printing::say(b"114 type ");
+        printing::say(out, b"114 type ")?;
     }
-    io::print_decimal(1, code as u64);
-    printing::say(b" ");
-    say_kind(kind);
-    printing::say(b" ");
-    io::print_decimal(1, width as u64);
-    printing::say(b"\n");
+    printing::say_decimal(out, code as u64)?;
+    printing::say(out, b" ")?;
+    say_kind(out, kind)?;
+    printing::say(out, b" ")?;
+    printing::say_decimal(out, width as u64)?;
+    printing::say(out, b"\n")
 }
 
 // The value sought, by the byte that is one more.
@@ -213,61 +216,63 @@ fn sought_by(x: u8) -> i32 {
 }
 
 // The line of a search: a row has 1 for MSF, one more than the value sought, and a table of two entries, whose values are at 16.
-fn search_line(row: &[u8]) {
+fn search_line<W: Write>(out: &mut W, row: &[u8]) -> io::Result<()> {
     if row.len() < 33 {
-        return;
+        return Ok(());
     }
     let msf = row[0] == 1;
     let sought = sought_by(row[1]);
-    printing::say(b"table");
-    say_order(msf);
-    say_bytes(&row[2..33]);
-    printing::say(b" seeks ");
-    printing::say_signed(sought);
+    printing::say(out, b"table")?;
+    say_order(out, msf)?;
+    say_bytes(out, &row[2..33])?;
+    printing::say(out, b" seeks ")?;
+    printing::say_signed(out, sought)?;
     let slot = search::find_value(row, 18, 33, 2, msf, sought);
     match slot {
         Slot::Found(k) => {
-            printing::say(b" slot ");
-            io::print_decimal(1, k as u64);
+            printing::say(out, b" slot ")?;
+            printing::say_decimal(out, k as u64)?;
         }
         Slot::Missing => {
-            printing::say(b" not found");
+            printing::say(out, b" not found")?;
         }
         Slot::Lost => {
-            printing::say(b" lost");
+            printing::say(out, b" lost")?;
         }
     }
-    printing::say(b"\n");
+    printing::say(out, b"\n")
 }
 
 // The line of a row.
-fn line(row: &[u8]) {
+fn line<W: Write>(out: &mut W, row: &[u8]) -> io::Result<()> {
     if row.len() < 34 {
-        return;
+        return Ok(());
     }
     let what = row[0];
     if what == 0 {
-        cell_line(&row[1..34]);
+        cell_line(out, &row[1..34])?;
     }
     if what == 1 {
-        code_line(&row[1..34]);
+        code_line(out, &row[1..34])?;
     }
     if what == 2 {
-        search_line(&row[1..34]);
+        search_line(out, &row[1..34])?;
     }
+    Ok(())
 }
 
 // The lines of rows.
-fn lines(rows: &[u8]) {
+fn lines<W: Write>(out: &mut W, rows: &[u8]) -> io::Result<()> {
     let mut at = 0;
     while 34 <= rows.len() - at {
-        line(&rows[at..at + 34]);
+        line(out, &rows[at..at + 34])?;
         at += 34;
     }
+    Ok(())
 }
 
-fn main() {
-    let mut rows = io::large_buffer();
-    let n = io::read_full(0, &mut rows);
-    lines(&rows[..n]);
+fn main(rt: HostRuntime) -> io::Result<()> {
+    let mut rows = [0u8; 65536];
+    let n = printing::read_full(&mut rt.stdin(), &mut rows)?;
+    lines(&mut rt.stdout(), &rows[..n])
 }
