@@ -47,24 +47,30 @@ returns-then-c-ne0 c =
 -- src/lib.rt:194:31
 pub overflow_add-b : goal.overflow_add-b
 overflow_add-b c =
-    omega (arith, n_room ((let it : (let a = c.args in Rowed a.e (order_by a.msf) a.f.now c.order_part-a.result c.number_part-b.result c.number-k.result c.rows_max.result c.number_part-c.result) = record {
-      before = (let it : (let a = c.args in Counted a.e (order_by a.msf) a.f.now c.order_part-a.result c.number_part-b.result) = record { before = (let it : (let a = c.args in Ordered a.e (order_by a.msf) a.f.now c.order_part-a.result) = record { begun = c.requires.0; tagged = c.requires.1; judged = c.order_part-a.ensures } in it); right = c.if-a-ne0.false; judged = c.number_part-b.ensures } in it);
-      right = c.if-b-ne0.false;
-      count = c.number-k.ensures.is;
-      most = c.rows_max.ensures;
-      judged = c.number_part-c.ensures;
-    } in it)) c.if-c-ne0.false, c.well_formed.0.0)
+    omega (
+      arith,
+      n_room ((let it : (let a = c.args in Rowed a.e (order_by a.msf) a.f.now c.order_part-a.result c.number_part-b.result c.number-k.result c.rows_max.result c.number_part-c.result) = record {
+        before = (let it : (let a = c.args in Counted a.e (order_by a.msf) a.f.now c.order_part-a.result c.number_part-b.result) = record { before = (let it : (let a = c.args in Ordered a.e (order_by a.msf) a.f.now c.order_part-a.result) = record { begun = c.requires.0; tagged = c.requires.1; judged = c.order_part-a.ensures } in it); right = c.if-a-ne0.false; judged = c.number_part-b.ensures } in it);
+        right = c.if-b-ne0.false;
+        count = c.number-k.ensures.is;
+        most = c.rows_max.ensures;
+        judged = c.number_part-c.ensures;
+      } in it)) c.if-c-ne0.false,
+      c.well_formed.0.0,
+    )
 
 -- src/lib.rt:194:13
 pub number-n-requires : goal.number-n-requires
-number-n-requires c =
-    (n_room ((let it : (let a = c.args in Rowed a.e (order_by a.msf) a.f.now c.order_part-a.result c.number_part-b.result c.number-k.result c.rows_max.result c.number_part-c.result) = record {
-      before = (let it : (let a = c.args in Counted a.e (order_by a.msf) a.f.now c.order_part-a.result c.number_part-b.result) = record { before = (let it : (let a = c.args in Ordered a.e (order_by a.msf) a.f.now c.order_part-a.result) = record { begun = c.requires.0; tagged = c.requires.1; judged = c.order_part-a.ensures } in it); right = c.if-a-ne0.false; judged = c.number_part-b.ensures } in it);
-      right = c.if-b-ne0.false;
-      count = c.number-k.ensures.is;
-      most = c.rows_max.ensures;
-      judged = c.number_part-c.ensures;
-    } in it)) c.if-c-ne0.false, c.requires.0.n_small)
+number-n-requires c = (
+  n_room ((let it : (let a = c.args in Rowed a.e (order_by a.msf) a.f.now c.order_part-a.result c.number_part-b.result c.number-k.result c.rows_max.result c.number_part-c.result) = record {
+    before = (let it : (let a = c.args in Counted a.e (order_by a.msf) a.f.now c.order_part-a.result c.number_part-b.result) = record { before = (let it : (let a = c.args in Ordered a.e (order_by a.msf) a.f.now c.order_part-a.result) = record { begun = c.requires.0; tagged = c.requires.1; judged = c.order_part-a.ensures } in it); right = c.if-a-ne0.false; judged = c.number_part-b.ensures } in it);
+    right = c.if-b-ne0.false;
+    count = c.number-k.ensures.is;
+    most = c.rows_max.ensures;
+    judged = c.number_part-c.ensures;
+  } in it)) c.if-c-ne0.false,
+  c.requires.0.n_small,
+)
 
 -- src/lib.rt:195:9
 pub new_texts-d-requires : goal.new_texts-d-requires

@@ -36,20 +36,20 @@ pub loop-lo-preserved-then-sought-value-2 : goal.loop-lo-preserved-then-sought-v
 loop-lo-preserved-then-sought-value-2 c = (
   search rules,
   below c.loop-lo.invariant.1 c.loop-lo-test.true (le-leb _ _ c.if-end-q.false) ((let it : same_z ((to_z w32 (of_z w32 c.args.sought))) ((let a = c.args in
-    value_at (order_by a.msf) a.f.now a.p (middle c.loop-lo.lo c.loop-lo.hi))) ≡ false = same_no _ _
-    (λ e. c.if-sought-value.false (ap (of_z w32) (sym ((let it : (to_z w32 (of_z w32 c.args.sought)) ≡ c.args.sought = to_z-of_z w32 c.args.sought c.ranges.sought in it)) ∙ e ∙ sym c.value_at-value.ensures))) in it))
+      value_at (order_by a.msf) a.f.now a.p (middle c.loop-lo.lo c.loop-lo.hi))) ≡ false = same_no _ _
+      (λ e. c.if-sought-value.false (ap (of_z w32) (sym ((let it : (to_z w32 (of_z w32 c.args.sought)) ≡ c.args.sought = to_z-of_z w32 c.args.sought c.ranges.sought in it)) ∙ e ∙ sym c.value_at-value.ensures))) in it))
       (subst (λ (z : ℤ). lt_z ((to_z w32 (of_z w32 c.args.sought))) z ≡ true) ((let it : to_z w32 (of_z w32 c.value_at-value.result) ≡ (let a = c.args in
-    value_at (order_by a.msf) a.f.now a.p (middle c.loop-lo.lo c.loop-lo.hi)) = to_z-of_z w32 c.value_at-value.result (record { sfits = c.value_at-value.type_inv }) ∙ c.value_at-value.ensures in it)) c.if-sought-value-2.true),
+      value_at (order_by a.msf) a.f.now a.p (middle c.loop-lo.lo c.loop-lo.hi)) = to_z-of_z w32 c.value_at-value.result (record { sfits = c.value_at-value.type_inv }) ∙ c.value_at-value.ensures in it)) c.if-sought-value-2.true),
 )
 
 pub loop-lo-preserved : goal.loop-lo-preserved
 loop-lo-preserved c = (
   search rules,
   above c.loop-lo.invariant.1 c.loop-lo-test.true (le-leb _ _ c.if-end-q.false) ((let it : same_z ((to_z w32 (of_z w32 c.args.sought))) ((let a = c.args in
-    value_at (order_by a.msf) a.f.now a.p (middle c.loop-lo.lo c.loop-lo.hi))) ≡ false = same_no _ _
-    (λ e. c.if-sought-value.false (ap (of_z w32) (sym ((let it : (to_z w32 (of_z w32 c.args.sought)) ≡ c.args.sought = to_z-of_z w32 c.args.sought c.ranges.sought in it)) ∙ e ∙ sym c.value_at-value.ensures))) in it))
+      value_at (order_by a.msf) a.f.now a.p (middle c.loop-lo.lo c.loop-lo.hi))) ≡ false = same_no _ _
+      (λ e. c.if-sought-value.false (ap (of_z w32) (sym ((let it : (to_z w32 (of_z w32 c.args.sought)) ≡ c.args.sought = to_z-of_z w32 c.args.sought c.ranges.sought in it)) ∙ e ∙ sym c.value_at-value.ensures))) in it))
       (subst (λ (z : ℤ). lt_z ((to_z w32 (of_z w32 c.args.sought))) z ≡ false) ((let it : to_z w32 (of_z w32 c.value_at-value.result) ≡ (let a = c.args in
-    value_at (order_by a.msf) a.f.now a.p (middle c.loop-lo.lo c.loop-lo.hi)) = to_z-of_z w32 c.value_at-value.result (record { sfits = c.value_at-value.type_inv }) ∙ c.value_at-value.ensures in it)) c.if-sought-value-2.false),
+      value_at (order_by a.msf) a.f.now a.p (middle c.loop-lo.lo c.loop-lo.hi)) = to_z-of_z w32 c.value_at-value.result (record { sfits = c.value_at-value.type_inv }) ∙ c.value_at-value.ensures in it)) c.if-sought-value-2.false),
 )
 
 pub returns : goal.returns
