@@ -1,9 +1,17 @@
 use mathlib.Core.Path.{sym, ◌∙◌}
-use Prim.Native.Nat.{◌≤◌, ◌+◌, ◌-◌}
+use Prim.Native.Nat.{ℕ, ◌≤◌, ◌+◌, ◌-◌, ◌*◌}
 use native.Mathlib.Omega.{arith}
-use lib.ListN.{length-take, length-drop}
+use mathlib.Core.List.{List}
+use lib.ListN.{length, length-take, length-drop}
 use Rattle.write_data.proofs.RowLaws.{rows_start, rows_end, block_inside, block_room, rows_block}
 use Rattle.write_data.proofs.put_each.Goals as goal
+
+-- the block is some of the rows that are left; they are in the file, and there is room for them
+record Next (f d : List ℕ) (p j m n w : ℕ) : Type 0 where
+  some : 1 ≤ m
+  left : j + m ≤ n
+  inside : p + j * w + m * w ≤ length f
+  room : j * w + m * w ≤ length d
 
 pub loop-j-init : goal.loop-j-init
 loop-j-init c = let a = c.args in (omega arith, rows_start a.f.now a.g a.h c.requires.0 c.requires.4 a.w c.requires.2 a.out.now)

@@ -1,6 +1,4 @@
-use Prim.Native.Nat.{ℕ, ◌≤◌, ◌+◌, ◌-◌, ◌*◌}
-use mathlib.Core.List.{List}
-use lib.ListN.{length}
+use Prim.Native.Nat.{◌≤◌, ◌-◌, ◌*◌}
 use Rattle.text.proofs.Lay.{Laid}
 use Rattle.format.specs.Grammar.{row}
 use Rattle.write_data.specs.Rows.{from, to, put_times, types_of}
@@ -11,8 +9,3 @@ invariant-loop-j l = (l.j ≤ l.n) × Laid (put_times (row (from l.h) (types_of 
 
 abbrev pub decreases-loop-j : goal.decreases-loop-j
 decreases-loop-j l = l.n - l.j
-record Next (l.f d : List ℕ) (p l.j m l.n l.w : ℕ) : Type 0 where
-  some : 1 ≤ m
-  left : l.j + m ≤ l.n
-  inside : p + l.j * l.w + m * l.w ≤ length l.f
-  room : l.j * l.w + m * l.w ≤ length d
