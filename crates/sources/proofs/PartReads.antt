@@ -86,7 +86,7 @@ module _ (f : List ℕ) (u : Bytes f) (e : Code.Edition) (m : Bool) (op : Opened
   longs_of_lem = to_code (λ E O k p. Stand (long_record E.tagged O E.record_width) f p s.longsend d.long_strings) d.k (content_at f 10 n_strls) S.variables s.longs S.longs (longs_stand f u h s.longsend S.longs_end)
 
   pub blocks_of : Stand (block e.tagged (order_by m) e.name_width) f s.blocks s.blocksend d.label_blocks
-  blocks_of = to_code (λ E O k p. Stand (block E.tagged O E.name_width) f p s.blocksend d.label_blocks) d.k (content_at f 11 n_value_labels) S.variables s.blocks S.blocks (blocks_stand f u h s.blocksend S.Blocks-end)
+  blocks_of = to_code (λ E O k p. Stand (block E.tagged O E.name_width) f p s.blocksend d.label_blocks) d.k (content_at f 11 n_value_labels) S.variables s.blocks S.blocks (blocks_stand f u h s.blocksend S.blocks_end)
 
 -- ---- what a target that holds the dataset holds
 

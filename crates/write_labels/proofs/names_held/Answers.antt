@@ -1,5 +1,5 @@
 use mathlib.Core.Path.{◌≡◌, ◌∙◌}
-use Prim.Native.Nat.{◌-◌}
+use Prim.Native.Nat.{◌<◌}
 use native.Mathlib.Omega.{arith}
 use Rattle.format.specs.Number.{order_by}
 use Rattle.format.specs.Labels.{table_size}
@@ -47,12 +47,12 @@ overflow_add-at-in-loop-at-2 c =
 
 pub loop-at-preserved : goal.loop-at-preserved
 loop-at-preserved c =
-    let next : (let a = c.args in Turn a.tagged (order_by a.msf) a.w a.f.now c.loop-at.at a.q c.loop-at.invariant.left) = let a = c.args in
-    holding_turn a.tagged (order_by a.msf) a.w a.f.now a.tow a.p a.q c.loop-at.invariant (omega arith) in
     let a = c.args in
     let x = c.text_len in
     let s = c.frame_size-from in
-    holding_next a.tagged (order_by a.msf) a.w a.f.now a.tow a.p a.q c.loop-at.invariant (omega arith) _ x.result
+    let b : c.loop-at.at < a.q = omega arith in
+    let next = holding_turn a.tagged (order_by a.msf) a.w a.f.now a.tow a.p a.q c.loop-at.invariant b in
+    holding_next a.tagged (order_by a.msf) a.w a.f.now a.tow a.p a.q c.loop-at.invariant b _ x.result
     (omega (arith, c.open_size-name.ensures.0)) x.ensures.is (omega arith) s.result c.table_len-t.result s.ensures.0 (c.table_len-t.ensures.is ∙ next.wide)
 
 pub returns : goal.returns
