@@ -12,6 +12,7 @@ Cases are the files of tests/cases and tests/samples, and the short files that c
 """
 import argparse
 import fcntl
+import hashlib
 import os
 import re
 import subprocess
@@ -23,22 +24,22 @@ import tempfile
 # the definitions that a computation unfolds, by the file of crates/format/specs that has them
 UNFOLDED = {
     "Grammar": "tag between",
-    "Header": "oldStamp oldHeader counted newFacts newHeader",
-    "Variables": "fileMap typeCode types name names sortList fields",
-    "Expansion": "expansionHead expansionBody expansion expansions",
-    "Data": "observations linked longHead longRecord strls",
-    "Labels": "tableHead tableBody table blockHead block blocks",
-    "Dta": "fromStrls fromData fromExpansions fromVarLabels fromSetNames fromFormats fromSortList fromNames fromTypes fromMap"
-    " sections partSizes fileTo verdict contents layoutOf",
+    "Header": "old_stamp old_header counted new_facts new_header",
+    "Variables": "file_map type_code types name names sort_list fields",
+    "Expansion": "expansion_head expansion_body expansion expansions",
+    "Data": "observations linked long_head long_record strls",
+    "Labels": "table_head table_body table block_head block blocks",
+    "Dta": "from_strls from_data from_expansions from_var_labels from_set_names from_formats from_sort_list from_names from_types from_map"
+    " sections part_sizes file_to verdict contents layout_of",
 }
 # the names that are used and not unfolded, and among them the type of a layout
 USED = {"Dta": "Layout"}
 LAYOUT = "Layout"
 # the refusal number of the file f, 0 if it is accepted, and the file's layout
 VERDICT = "verdict f"
-LAYOUT_OF = "layoutOf f"
+LAYOUT_OF = "layout_of f"
 # edition, byte order, K, N and length of a layout l
-FACTS = ("l .release", "l .order", "l .variables", "l .rows", "getD (l .places) 13 0")
+FACTS = ("l.release", "l.order", "l.variables", "l.rows", "(get_or l.places 13 0)")
 # the byte orders as the layout has them
 ORDERS = {"MSF": 1, "LSF": 2}
 
@@ -77,14 +78,9 @@ def named():
 
 def line_spec():
     """specs/Line.antt: the line of a file, from the definitions of format."""
-    uses = "".join("use Rattle·format.specs.%s.{%s}\n" % (m, ", ".join(names)) for m, names in named().items())
+    uses = "".join("use Rattle.format.specs.%s.{%s}\n" % (m, ", ".join(names)) for m, names in named().items())
     return """-- The line that the definitions of format compute for a file. Written by tools/cases.py.
-use mathlib.Core.Path.{{_≡_}}
-use Prim.Native.Nat.{{ℕ, zero, suc, _-_, _/_, _%_}}
-use mathlib.Core.List.{{List, [], _∷_}}
-use mathlib.Core.Bool.{{cond}}
-use lib.ListN.{{getD}}
-use lib.Dec.{{eqb}}
+use Rattle.std.specs.Prelude.{{◌≡◌, ℕ, zero, suc, ◌-◌, ◌/◌, ◌%◌, List, [], ◌∷◌, cond, get_or, eqb}}
 {uses}
 -- what is said of a file: its refusal number; or edition, byte order, K, N and length
 pub data Line : Type 0 where
@@ -99,13 +95,13 @@ abbrev pub LSF : ℕ
 LSF = {LSF}
 
 -- the line of an accepted file with the layout
-abbrev pub lineBy : {layout} → Line
-lineBy l = accepted {facts}
+abbrev pub line_by : {layout} → Line
+line_by l = accepted {facts}
 
 -- the line of a file
 unfoldable pub line : List ℕ → Line
 unfolding {unfolded}
-line f = let a = lineBy ({layout_of}) in let r = refused ({verdict}) in cond (eqb ({verdict}) 0) a r
+line f = let a = line_by ({layout_of}) in let r = refused ({verdict}) in cond (eqb ({verdict}) 0) a r
 
 -- the w bytes of a number, most significant first, and then l
 unfoldable pub digits : ℕ → ℕ → List ℕ → List ℕ
@@ -126,11 +122,11 @@ Case = List ℕ × Line
 -- the lines that are computed, and those that are stated
 unfoldable pub computed : List Case → List Line
 computed [] = []
-computed (c ∷ t) = line (c .0) ∷ computed t
+computed (c ∷ t) = line c.0 ∷ computed t
 
 unfoldable pub stated : List Case → List Line
 stated [] = []
-stated (c ∷ t) = c .1 ∷ stated t
+stated (c ∷ t) = c.1 ∷ stated t
 
 -- they are the same
 unfoldable pub Agree : List Case → Type 0
@@ -141,7 +137,7 @@ Agree t = computed t ≡ stated t
         layout=LAYOUT,
         layout_of=LAYOUT_OF,
         verdict=VERDICT,
-        facts=" ".join("(%s)" % f for f in FACTS),
+        facts=" ".join(FACTS),
         unfolded=" ".join(UNFOLDED.values()),
         row=ROW,
         **ORDERS,
@@ -159,7 +155,7 @@ class Case:
 
     @property
     def ident(self):
-        return "c-" + re.sub("[^A-Za-z0-9]+", "-", self.name).strip("-")
+        return "c_" + re.sub("[^A-Za-z0-9]+", "_", self.name).strip("_")
 
     @property
     def term(self):
@@ -261,24 +257,30 @@ def grouped(cases, together):
     return groups
 
 
+def words_of(cases):
+    """The words of the lines of cases."""
+    said = {word for case in cases for word in case.term.split()}
+    return [word for word in ("refused", "accepted", *ORDERS) if word in said]
+
+
 def module_text(crate, cases, first, together):
     """A module that states the cases. The first of them has the number `first`."""
     parts = [
         """-- Cases {first} to {last}, by computation. Written by tools/cases.py.
 use mathlib.Core.Path.{{refl}}
 use Prim.Native.Nat.{{ℕ}}
-use mathlib.Core.List.{{List, [], _∷_}}
-use Rattle·{crate}·specs.specs.Line.{{Line, refused, accepted, MSF, LSF, bytes, Case, Agree}}
-""".format(first=first, last=first + len(cases) - 1, crate=crate)
+use mathlib.Core.List.{{List, [], ◌∷◌}}
+use Rattle.{crate}.specs.Line.{{{used}, bytes, Case, Agree}}
+""".format(first=first, last=first + len(cases) - 1, crate=crate, used=", ".join(words_of(cases)))
     ]
     number = first
     for group in grouped(cases, together):
         names = [c.ident for c in group]
         parts += [bytes_text(c.ident, c.data) for c in group]
         table = "\n    ∷ ".join("(%s, %s)" % (c.ident, c.term) for c in group)
-        parts.append("table-%d : List Case\ntable-%d =\n    %s\n    ∷ []\n" % (number, number, table))
+        parts.append("table_%d : List Case\ntable_%d =\n    %s\n    ∷ []\n" % (number, number, table))
         parts.append(
-            "agree-%d : Agree table-%d\nunfolding Agree table-%d %s\nagree-%d = refl\n" % (number, number, number, " ".join(names), number)
+            "agree_%d : Agree table_%d\nunfolding Agree table_%d %s\nagree_%d = refl\n" % (number, number, number, " ".join(names), number)
         )
         number += len(group)
     return "\n".join(parts)
@@ -286,7 +288,7 @@ use Rattle·{crate}·specs.specs.Line.{{Line, refused, accepted, MSF, LSF, bytes
 
 def source_text(about, count):
     """src/lib.rt: a crate has at least one function."""
-    return "// %s\npub fn count() -> u64 {\n    %d\n}\n" % (about, count)
+    return "#![tactic(auto)]\n\n// %s\npub fn count() -> u64 {\n    %d\n}\n" % (about, count)
 
 
 def crate_text(crate, cases, together=True):
@@ -341,7 +343,7 @@ def dependencies():
     for text in read_text(path).splitlines() if os.path.exists(path) else []:
         name, colon, needs = text.split("#")[0].partition(":")
         if colon:
-            lines[name.strip()] = needs.split()
+            lines[name.split()[0]] = needs.split()
     found, todo = {}, ["format"]
     while todo:
         name = todo.pop()
@@ -403,10 +405,10 @@ def rt(room, *words):
 
 # In `answer f refl ?` antt has to find n from `code (line f) + 1 ≡ suc n`. As `+` computes at numbers only, n becomes the
 # computed number, and the goal of the hole, `Is n`, shows it.
-QUERY = """use mathlib.Core.Path.{_≡_, refl}
-use Prim.Native.Nat.{ℕ, suc, _+_, _*_}
-use mathlib.Core.List.{List, [], _∷_}
-use Rattle·line·specs.specs.Line.{Line, refused, accepted, line, bytes}
+QUERY = """use mathlib.Core.Path.{◌≡◌, refl}
+use Prim.Native.Nat.{ℕ, suc, ◌+◌, ◌*◌}
+use mathlib.Core.List.{List, [], ◌∷◌}
+use Rattle.line.specs.Line.{Line, refused, accepted, line, bytes}
 
 -- a line as one number: the refusal number, then the five numbers of an accepted file
 code : Line → ℕ
@@ -440,8 +442,8 @@ def computed_lines(room, contents):
     listed = write_definitions(room)
     text = QUERY
     for i, data in enumerate(contents):
-        text += "\n" + bytes_text("f-%d" % i, data)
-        text += "\nq-%d : ℕ\nunfolding code line bytes f-%d\nq-%d = answer f-%d refl ?\n" % (i, i, i, i)
+        text += "\n" + bytes_text("f_%d" % i, data)
+        text += "\nq_%d : ℕ\nunfolding code line bytes f_%d\nq_%d = answer f_%d refl ?\n" % (i, i, i, i)
     write_files(room, {"crates.txt": listed + "line: format\n"})
     files = {
         "src/lib.rt": source_text("A crate has a function; the question is in proofs.", 0),
@@ -451,15 +453,15 @@ def computed_lines(room, contents):
         "proofs/Query.antt": text,
     }
     replace_files(os.path.join(room, "crates", "line"), files)
-    said = rt(room, "dev", "line", "--allow-holes")
+    said = rt(os.path.join(room, "crates", "line"), "check", "--allow-holes")
     if not re.search(r"^holes=\d+", said, re.M):
         raise Failure("the definitions of crates/format do not check; rt says:\n" + shortened(said))
-    goals = dict(re.findall(r"goal \? in `q-(\d+)`\n(?:    .*\n)*? *⊢ Is (\d+)$", said, re.M))
+    goals = dict(re.findall(r"goal \? in `q_(\d+)`\n(?:    .*\n)*? *⊢ Is (\d+)$", said, re.M))
     lines = []
     for i in range(len(contents)):
         if str(i) in goals:
             lines.append((line_of(int(goals[str(i)])), ""))
-        elif re.search(r"error: `q-%d`: .*(step limit|memory|deep recursion)" % i, said):
+        elif re.search(r"error: `q_%d`: .*(step limit|memory|deep recursion)" % i, said):
             lines.append((None, "too long: antt reaches its limit of steps or memory before the line is computed"))
         else:
             hint = "; UNFOLDED in tools/cases.py leaves out: " + " ".join(left_out())
@@ -504,10 +506,10 @@ def check_all(bound):
         listed = write_definitions(room)
         write_files(room, {"crates.txt": listed + "cases: format\n"})
         write_files(os.path.join(room, "crates", "cases"), crate_text("cases", cases, together=False))
-        said = rt(room, "check")
-        facts = {"agree-%d" % n: case for n, case in enumerate(cases, 1)}
+        said = rt(os.path.join(room, "crates", "cases"), "check")
+        facts = {"agree_%d" % n: case for n, case in enumerate(cases, 1)}
         refused = list(dict.fromkeys(re.findall(r"error: `([^`]+)`", said)))
-        if not set(refused) <= set(facts) or not (refused or re.search(r"^rt: ok", said, re.M)):
+        if not set(refused) <= set(facts) or not (refused or re.search(r"^logic=proved", said, re.M)):
             raise Failure("the cases do not check; rt says:\n" + shortened(said))
         wrong = [facts[name] for name in refused]
         found = computed_lines(os.path.join(room, "line"), [c.data for c in wrong]) if wrong else []
@@ -522,8 +524,8 @@ def print_lines(paths):
     for path in paths:
         with open(path, "rb") as f:
             contents.append(f.read())
-    # what rt proves of the definitions stays in target/, so that it is proved once
-    room = os.path.join(ROOT, "target", "line")
+    # what rt proves of the definitions stays, so that it is proved once; not in the checkout, where `rt ci` refuses files that no crate has
+    room = os.path.join(os.environ.get("XDG_CACHE_HOME") or os.path.expanduser("~/.cache"), "dta-lines", hashlib.sha256(ROOT.encode()).hexdigest()[:16])
     os.makedirs(room, exist_ok=True)
     with open(os.path.join(room, "lock"), "w") as lock:
         fcntl.flock(lock, fcntl.LOCK_EX)

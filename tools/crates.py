@@ -5,8 +5,8 @@
     crates.py --write   write it
     crates.py --check   say whether it is up to date
 
-A crate uses a library that its sources, definitions or proofs name, or that declares a type of a value which it reaches: the toolchain asks for both, and
-finds what these stand on by itself. The crates, their order and the libraries of the kit are those that crates.txt has.
+A crate uses a library that its sources, definitions or proofs name; the toolchain finds what these stand on by itself. The crates, their order, which of them
+are static libraries, and the libraries of the kit are those that crates.txt has.
 """
 import os
 import re
@@ -23,12 +23,13 @@ def read(path):
 
 
 def listed():
-    """Each crate of crates.txt with its list, in its order."""
+    """Each crate of crates.txt, in its order: what stands before the colon after its name, as ` staticlib`, and its list."""
     crates = {}
     for line in read(LIST).splitlines():
         name, colon, rest = line.split("#")[0].partition(":")
         if colon:
-            crates[name.strip()] = rest.split()
+            name, *kind = name.split()
+            crates[name] = "".join(" " + word for word in kind), rest.split()
     return crates
 
 
@@ -50,60 +51,21 @@ def named_by(crate, crates):
     names = set(re.findall(r"\b(\w+)::", source_of(crate)))
     for folder, ending in (("src", ".rt"), ("specs", ".antt"), ("proofs", ".antt")):
         for text in texts(crate, folder, ending):
-            names |= set(re.findall(r"Rattle·(\w+)", text))
-    kit = {name for names in crates.values() for name in names if name not in crates}
+            names |= set(re.findall(r"\bRattle\.(\w+)\.", text))
+    kit = {name for _, uses in crates.values() for name in uses if name not in crates}
     return names & (set(crates) | kit) - {crate}
 
 
-class Types:
-    """The structs and enums of all crates, and the types that functions take and return."""
-
-    def __init__(self, crates):
-        self.bodies, self.signatures, self.brought = {}, {}, {}
-        for crate in crates:
-            source = source_of(crate)
-            self.brought[crate] = {name: owner for owner, name in re.findall(r"^use (\w+)::(\w+);", source, re.M)}
-            for name, body in re.findall(r"^(?:pub )?(?:struct|enum) (\w+)(?:<[^>]*>)?\s*(\{.*?^\}|\([^;]*;)", source, re.M | re.S):
-                self.bodies[crate, name] = body
-            for name, signature in re.findall(r"^(?:pub )?(?:extern \"C\" )?fn (\w+)(.*?)$(?=\s*(?:requires|ensures|ghost|\{)|.*\{)", source, re.M | re.S):
-                self.signatures[crate, name] = signature
-
-    def mentioned(self, crate, text):
-        """The types that a text of a crate mentions."""
-        found = {(owner, name) for owner, name in re.findall(r"\b(\w+)::(\w+)", text) if (owner, name) in self.bodies}
-        for name in set(re.findall(r"\b[A-Z]\w*", text)):
-            owner = self.brought[crate].get(name, crate)
-            if (owner, name) in self.bodies:
-                found.add((owner, name))
-        return found
-
-    def reached(self, crate):
-        """The types of the values that a crate reaches: those that it mentions, those of the functions that it calls, and the fields of these."""
-        source = source_of(crate)
-        todo = self.mentioned(crate, source)
-        for owner, name in re.findall(r"\b(\w+)::(\w+)\(", source):
-            todo |= self.mentioned(owner, self.signatures.get((owner, name), "")) if owner in self.brought else set()
-        done = set()
-        while todo:
-            one = todo.pop()
-            if one not in done:
-                done.add(one)
-                todo |= self.mentioned(one[0], self.bodies[one])
-        return done
-
-
-def lists():
+def lines():
     crates = listed()
-    types = Types(crates)
     order = {name: at for at, name in enumerate(crates)}
-    for crate in crates:
-        used = named_by(crate, crates) | {owner for owner, _ in types.reached(crate)}
-        used |= {"libc"} if "io" in used else set()
-        yield crate, sorted(used - {crate}, key=lambda name: (order.get(name, len(order)), name))
+    for crate, (kind, _) in crates.items():
+        used = sorted(named_by(crate, crates), key=lambda name: (order.get(name, len(order)), name))
+        yield f"{crate}{kind}: {' '.join(used)}".rstrip()
 
 
 def main():
-    text = "\n".join([HEAD] + [f"{crate}: {' '.join(used)}".rstrip() for crate, used in lists()]) + "\n"
+    text = "\n".join([HEAD, *lines()]) + "\n"
     if "--write" in sys.argv:
         with open(LIST, "w", encoding="utf-8") as file:
             file.write(text)
