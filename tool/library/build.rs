@@ -16,7 +16,7 @@ fn main() {
         println!("cargo::rerun-if-changed={}", library.display());
         if !library.exists() {
             let library = library.display();
-            println!("cargo::error={library} is missing: run `rt staticlib {name}` in the repository, or name its folder in {FOLDER}");
+            println!("cargo::error={library} is missing: run `tools/archive.sh {name}` in the repository, or name its folder in {FOLDER}");
             return;
         }
         println!("cargo::rustc-link-lib=static={name}");

@@ -128,12 +128,12 @@ pub fn stored() -> (Vec<u8>, Vec<u8>) {
 
 /// What the program writes for the records.
 pub fn written(records: &[Record]) -> Vec<u8> {
-    let program = Path::new(env!("CARGO_MANIFEST_DIR")).join("../../target/bin/dta_ask");
+    let program = Path::new(env!("CARGO_MANIFEST_DIR")).join("../../crates/dta_ask/out/dta_ask");
     let mut child = Command::new(program)
         .stdin(Stdio::piped())
         .stdout(Stdio::piped())
         .spawn()
-        .expect("target/bin/dta_ask is there: rt check dta_ask builds it");
+        .expect("crates/dta_ask/out/dta_ask is there: rt ci builds it");
     let mut stdin = child.stdin.take().unwrap();
     let output = std::thread::scope(|scope| {
         scope.spawn(move || {

@@ -104,12 +104,13 @@ pub fn stored() -> (Vec<u8>, String) {
 
 /// What the program writes for the files.
 pub fn written(files: &[Vec<u8>]) -> String {
-    let program = Path::new(env!("CARGO_MANIFEST_DIR")).join("../../target/bin/dta_rounds");
+    let program =
+        Path::new(env!("CARGO_MANIFEST_DIR")).join("../../crates/dta_rounds/out/dta_rounds");
     let mut child = Command::new(program)
         .stdin(Stdio::piped())
         .stdout(Stdio::piped())
         .spawn()
-        .expect("target/bin/dta_rounds is there: rt check dta_rounds builds it");
+        .expect("crates/dta_rounds/out/dta_rounds is there: rt ci builds it");
     let mut stdin = child.stdin.take().unwrap();
     let output = std::thread::scope(|scope| {
         scope.spawn(move || {

@@ -1,4 +1,4 @@
-//! The program `dta_header`, as `rt ci` or `rt check dta_header` builds it: the line of a file on standard input.
+//! The program `dta_header`, as `rt ci` builds it: the line of a file on standard input.
 
 use independent::stated;
 use std::io::Write;
@@ -7,12 +7,13 @@ use std::process::{Command, Stdio};
 
 /// What the program writes for these bytes on its standard input.
 fn written(input: &[u8]) -> String {
-    let program = Path::new(env!("CARGO_MANIFEST_DIR")).join("../../target/bin/dta_header");
+    let program =
+        Path::new(env!("CARGO_MANIFEST_DIR")).join("../../crates/dta_header/out/dta_header");
     let mut child = Command::new(program)
         .stdin(Stdio::piped())
         .stdout(Stdio::piped())
         .spawn()
-        .expect("target/bin/dta_header is there: rt check dta_header builds it");
+        .expect("crates/dta_header/out/dta_header is there: rt ci builds it");
     let mut stdin = child.stdin.take().unwrap();
     let input = input.to_vec();
     let writer = std::thread::spawn(move || {
