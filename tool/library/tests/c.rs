@@ -100,7 +100,7 @@ fn the_header_has_the_functions_of_the_libraries() {
     ]
     .concat();
     let exported: String = proved
-        .split("#[no_mangle]")
+        .split("#[unsafe(no_mangle)]")
         .skip(1)
         .map(|part| part.split(['(', '<']).next().unwrap().to_owned() + "(")
         .collect();
