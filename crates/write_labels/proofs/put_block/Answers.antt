@@ -150,3 +150,18 @@ returns c =
     let l3 = puts_part {t = O ++ H} l2 T k.new.out k.result (table_puts K x.result x.ensures.0 k.ensures) (omega (arith, D)) in
     let l4 = puts_part {t = (O ++ H) ++ T} l3 (closing a.totagged n_lbl) y.new.out y.result (close_puts a.totagged y.ensures) (omega (arith, D)) in
     room_puts K (puts_of (laid_as l4 (sym (block_fill z a.tow a.totagged b)) refl))
+
+pub slice_bounds-put_counted-start : goal.slice_bounds-put_counted-start
+slice_bounds-put_counted-start c =
+    let x = c.open_size-s in
+    let A = room_inside c.requires x.result x.ensures.0 in
+    let g = c.put_tag-a in
+    let D = room_after c.requires g.result g.ensures.long in
+    search rules
+
+pub slice_bounds-put_tag-start : goal.slice_bounds-put_tag-start
+slice_bounds-put_tag-start c =
+    let x = c.open_size-s in
+    let g = c.put_tag-a in
+    let D = room_last c.requires x.result x.ensures.0 c.put_counted-k.ensures g.result g.ensures.long (length (cond c.args.totagged (closing true n_lbl) [])) refl in
+    search rules
