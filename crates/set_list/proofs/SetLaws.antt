@@ -83,47 +83,44 @@ set_teller t o w =
     }
 
 module _ {t : Bool} {o : Order} {w : ℕ} {f : List ℕ} {p q m at n : ℕ} (h : TellCounted (set_teller t o w) f p q m at n) (b : at < q) where
-  abbrev this : LabelBlock
-  this = (next_of h b).first
-
-  stands : BlockAt t o w f at this
+  stands : BlockAt t o w f at (next_of h b).first
   stands = record { right = (next_of h b).right; fits = (next_of h b).fits }
 
   -- a block is next
   pub next_here : BlockHere t o w f at
-  next_here = record { this = this; stands = stands }
+  next_here = record { this = (next_of h b).first; stands = stands }
 
   -- as code reads it
   module _ {r : Block} (R : ReadsBlock t o w f at r) where
-    says : Says t o w f at r this
-    says = R.all this stands
+    says : Says t o w f at r (next_of h b).first
+    says = R.all (next_of h b).first stands
 
-    read : BlockRead t o w f at (length (opening t n_lbl)) this
-    read = block_read t o w f at this stands (length (opening t n_lbl)) refl
+    read : BlockRead t o w f at (length (opening t n_lbl)) (next_of h b).first
+    read = block_read t o w f at (next_of h b).first stands (length (opening t n_lbl)) refl
 
-    pub next_long_lem : 3 + r.entries * 3 ≡ length (block_numbers t w at this)
+    pub next_long_lem : 3 + r.entries * 3 ≡ length (block_numbers t w at (next_of h b).first)
     next_long_lem =
-        let k = length this.entries.offsets in
-        omega (arith, says.entries, entries_long this.entries (table_place t w at + 8 + k * 4 + k * 4) k)
+        let k = length (next_of h b).first.entries.offsets in
+        omega (arith, says.entries, entries_long (next_of h b).first.entries (table_place t w at + 8 + k * 4 + k * 4) k)
 
     pub next_fits : n + (3 + r.entries * 3) ≤ m
     next_fits = omega (arith, next_long_lem, next_room h b)
 
-    pub next_far : r.next ≡ at + (block t o w).size this
+    pub next_far : r.next ≡ at + (block t o w).size (next_of h b).first
     next_far = says.next
 
     pub next_on : at < r.next
-    next_on = omega (arith, says.next, block_some t o w this)
+    next_on = omega (arith, says.next, block_some t o w (next_of h b).first)
 
     pub next_counted : TellCounted (set_teller t o w) f p q m r.next (n + (3 + r.entries * 3))
     next_counted = counted_on h b r.next (3 + r.entries * 3) says.next next_long_lem
 
-    table_here : TableAt o f r.table r.entries r.chars this.entries
-    table_here = subst (λ (y : ℕ). TableAt o f y r.entries r.chars this.entries) (sym says.table) (read.tabled r.entries r.chars says.entries says.chars)
+    table_here : TableAt o f r.table r.entries r.chars (next_of h b).first.entries
+    table_here = subst (λ (y : ℕ). TableAt o f y r.entries r.chars (next_of h b).first.entries) (sym says.table) (read.tabled r.entries r.chars says.entries says.chars)
 
     -- its table and its name are in the file
     pub next_table : TableRoom o f r.table r.entries r.chars (length f)
-    next_table = record { this = this.entries; stands = table_here; room = omega (arith, read.inside) }
+    next_table = record { this = (next_of h b).first.entries; stands = table_here; room = omega (arith, read.inside) }
 
     pub next_name : r.name + w ≤ length f
     next_name = omega (arith, read.inside, says.name)
@@ -131,7 +128,7 @@ module _ {t : Bool} {o : Order} {w : ℕ} {f : List ℕ} {p q m at n : ℕ} (h :
     -- what is put for it
     pub next_puts : {d e : List ℕ} {k : ℕ}
         → PutsOf o f r.table r.entries r.chars (λ (u : Table). set_numbers r.name (length (text_at w f r.name)) r.table r.entries u) d e k
-        → Puts (block_numbers t w at this) d e k
+        → Puts (block_numbers t w at (next_of h b).first) d e k
     next_puts P =
-        let long : length (text_at w f r.name) ≡ length this.set_name = ap (λ (y : ℕ). length (text_at w f y)) says.name ∙ ap length read.called in
-        puts_as (λ i. set_numbers (says.name i) (long i) (says.table i) (says.entries i) this.entries) (P.all this.entries table_here)
+        let long : length (text_at w f r.name) ≡ length (next_of h b).first.set_name = ap (λ (y : ℕ). length (text_at w f y)) says.name ∙ ap length read.called in
+        puts_as (λ i. set_numbers (says.name i) (long i) (says.table i) (says.entries i) (next_of h b).first.entries) (P.all (next_of h b).first.entries table_here)
