@@ -107,7 +107,7 @@ fn bits_at(f: &[u8], p: usize, w: usize, msf: bool) -> u32
     number::number(f, p, w, msf) as u32
 }
 
-// The cell at `p`, of a kind and width; `vw` and `ow` are the widths of v and o in a str_l cell.
+// The cell at `p`, of a kind and width; `vw` and `ow` are the widths of v and o in a strL cell.
 pub fn cell_at(
     f: &[u8],
     p: usize,

@@ -14,7 +14,7 @@ use Rattle.editions.specs.declared.Edition as Code
 use Rattle.checking.specs.declared.Rest.{Rest}
 use Rattle.checking.specs.declared.Walk.{Walk}
 
--- v and o of a str_l cell have eight bytes together, and the other numbers are small
+-- v and o of a strL cell have eight bytes together, and the other numbers are small
 pub record Wide (e : Code.Edition) : Type 0 where
   pub eight : e.v_width + e.o_width ≡ 8
   pub record_small : e.record_width ≤ 8

@@ -5,7 +5,7 @@ use Rattle.codes.specs.declared.Kind.{Kind}
 use Rattle.codes.specs.declared.Kind.TheVariants.{Text, StrL, Byte, Int, Long, Float, Double, Unknown}
 use Rattle.codes.specs.declared.Field.{Field}
 
--- the field of a type: its kind, and how many bytes a cell has; a str_l cell has 8 in every edition
+-- the field of a type: its kind, and how many bytes a cell has; a strL cell has 8 in every edition
 abbrev pub field_by : VarType → Field
 field_by (text_type w) = record { kind = Text; width = w }
 field_by strl_type = record { kind = StrL; width = 8 }

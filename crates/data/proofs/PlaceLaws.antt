@@ -41,7 +41,7 @@ width_small t c = go (has_type t (type_by t c)) refl
     go true e = type_small t (type_by t c) e
     go false e = omega arith
 
--- a type's width in the grammar, where a str_l cell has 8 bytes
+-- a type's width in the grammar, where a strL cell has 8 bytes
 type_width : (vw ow : ℕ) → vw + ow ≡ 8 → (x : VarType) → cell_width vw ow x ≡ (field_by x).width
 type_width vw ow e (text_type w) = refl
 type_width vw ow e strl_type = e

@@ -34,6 +34,6 @@ module _ (t : Bool) (o : Order) (f : List ℕ) (tp : ℕ) where
     pub inside : tp + k * code_width t ≤ length f
     pub right : judge_times (type_code t o) k f tp ≡ 0
 
-  -- r is the answer for n observations of these k variables at p, where a str_l cell has 8 bytes
+  -- r is the answer for n observations of these k variables at p, where a strL cell has 8 bytes
   abbrev pub DataJudged : ℕ → ℕ → ℕ → Step → Type 0
   DataJudged k n p r = (vw ow : ℕ) → vw + ow ≡ 8 → Judged (observations t o vw ow (read_times (type_code t o) k f tp) n) f p r

@@ -75,7 +75,7 @@ pub record CheckGiven (f : List ℕ) (r : Checked) : Type 1 where
   pub length_of_none : Iff (r.code ≡ 9) (LengthOfNone (edition_of f) (order_of f) f)
   -- 10: a map position is wrong
   pub map_wrong : Iff (r.code ≡ 10) (MapWrong (edition_of f) (order_of f) f)
-  -- 11: a str_l reference or record breaks its rule
+  -- 11: a strL reference or record breaks its rule
   pub link_broken : Iff (r.code ≡ 11) (LinkBroken (edition_of f) (order_of f) f)
   -- 12: a label table breaks its rule
   pub table_broken : Iff (r.code ≡ 12) (TableBroken (edition_of f) (order_of f) f)
@@ -289,7 +289,7 @@ pub record Demand2 : Type 1 where
   pub listed : (f : List ℕ) (c : Checked) → Accepted f c → ListsGiven f
   -- each edition that is read is offered, in either byte order
   pub offers : (r : Release) (o : Order) → offered (edition r).number (order_mark o) ≡ true
-  -- what an edition can hold of a dataset that was read: the types that it has (no str_l and no text wider than 244 in 113, 114 and 115), a
+  -- what an edition can hold of a dataset that was read: the types that it has (no strL and no text wider than 244 in 113, 114 and 115), a
   -- dataset label and texts that its fields have room for, a result within the length bound
   pub can_hold : (f : List ℕ) (c : Checked) → Accepted f c → (r : Release) (o : Order) → let d = dataset_of f in let e = edition r in holds e o d
       ≡ (all_types e.tagged d.var_types

@@ -99,7 +99,7 @@ module _ (e : Edition) (o : Order) (f : List ℕ) where
     pub kind : get_or f at 0 ≡ 0
     pub long : num o 4 f (at + 1) ≡ 0 → ⊥
 
-  -- ---- 11: a str_l reference or record breaks its rule
+  -- ---- 11: a strL reference or record breaks its rule
 
   -- after the last record: the cells and the records don't keep to their rule (`linked`)
   pub record LinkBroken : Type 0 where

@@ -99,7 +99,7 @@ pub record Widths (e : Edition) : Type 0 where
   pub name_most : e.name_width ≤ 129
   pub format_most : e.format_width ≤ 57
   pub var_label_most : e.var_label_width ≤ 321
-  -- str_l cells and records
+  -- strL cells and records
   pub eight : e.v_width + e.o_width ≡ 8
   pub record_most : e.record_width ≤ 8
 

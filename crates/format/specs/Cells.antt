@@ -50,7 +50,7 @@ says_double b = says_real 0x7fe0000000000000 (2 ^ 40) 0x7ff0000000000000 0x80000
 
 -- ---- a cell in a file
 
--- what the cell of a type at place p of the file says; vw and ow are the widths of v and o in a str_l cell
+-- what the cell of a type at place p of the file says; vw and ow are the widths of v and o in a strL cell
 abbrev pub says_at : Order → ℕ → ℕ → VarType → List ℕ → ℕ → Says
 says_at o vw ow (text_type w) f p = words p (length (text_at w f p))
 says_at o vw ow strl_type f p = reference (num o vw f p) (num o ow f (p + vw))

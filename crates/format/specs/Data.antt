@@ -39,7 +39,7 @@ link_of (link v o) = (v, o)
 abbrev pub bit_cell : Order → ℕ → Sect Cell
 bit_cell o w = coded bits bits_of (number o w)
 
--- a cell, by the type of its variable; a str_l cell has v in vw bytes and o in ow bytes
+-- a cell, by the type of its variable; a strL cell has v in vw bytes and o in ow bytes
 abbrev pub cell : Order → ℕ → ℕ → VarType → Sect Cell
 cell o vw ow (text_type w) = coded chars chars_of (fixed w)
 cell o vw ow strl_type = coded link_by link_of (seq (number o vw) λ v. number o ow)
@@ -84,7 +84,7 @@ is_link (bits n) v o = false
 is_link (chars t) v o = false
 is_link (link x y) v o = eqb x v && eqb y o
 
--- cell (v, o) of the data d, variable v in observation o, names itself (so variable v is str_l)
+-- cell (v, o) of the data d, variable v in observation o, names itself (so variable v is strL)
 abbrev pub names_itself : List (List Cell) → ℕ → ℕ → Bool
 names_itself d v o = is_link (nth (bits 0) (nth [] d o) v) v o
 
@@ -155,7 +155,7 @@ long_by w = record { v = w.1.0.0; o = w.1.0.1.0; kind = w.1.0.1.1.0; contents = 
 abbrev pub long_of : LongString → Unit {0} × (LongHead × List ℕ)
 long_of r = (tt, ((r.v, (r.o, (r.kind, length r.contents))), r.contents))
 
--- a str_l record: GSO, v, o, kind, length, contents; an untagged edition has none
+-- a strL record: GSO, v, o, kind, length, contents; an untagged edition has none
 unfoldable pub long_record : Bool → Order → ℕ → Sect LongString
 long_record t o ow =
     ruled

@@ -26,7 +26,7 @@ InFields f p w k i = (v : ℕ) × (v < k) × (AfterZero f (p + v * w) w i)
 abbrev pub InSortList : Order → List ℕ → ℕ → ℕ → ℕ → Type 0
 InSortList o f p n i = (a : ℕ) × (b : ℕ) × (a < b) × (b < n) × (num o 2 f (p + a * 2) ≡ 0) × (Among (p + b * 2) 2 i)
 
--- after the first zero of a text cell in a row at p, the types being t; vw and ow are the widths of v and o in a str_l cell
+-- after the first zero of a text cell in a row at p, the types being t; vw and ow are the widths of v and o in a strL cell
 abbrev pub InRow : ℕ → ℕ → List ℕ → List VarType → ℕ → ℕ → Type 0
 InRow vw ow f t p i =
     (v : ℕ) × (w : ℕ) × (v < length t) × (get_or t v byte_type ≡ text_type w) × (AfterZero f (p + row_width (cell_width vw ow) (take v t)) w i)

@@ -1,4 +1,4 @@
--- A.dta file: its sections in order, its dataset, its layout, what is written.
+-- A .dta file: its sections in order, its dataset, its layout, what is written.
 use Rattle.std.specs.Prelude.{◌≡◌, ℕ, zero, suc, ◌+◌, ◌*◌, List, [], ◌∷◌, ◌++◌, Bool, true, false, cond, ◌&&◌, ◌||◌, length, get_or, replicate, eqb, leb, ltb}
 use Rattle.format.specs.Slot.{Slot, fill, dead}
 use Rattle.format.specs.Number.{Order, msf, order_by}

@@ -22,7 +22,7 @@ pub record Edition : Type 0 where
   pub format_width : ℕ
   -- bytes of a variable label
   pub var_label_width : ℕ
-  -- bytes of v and of o in a str_l cell, and of o in a str_l record
+  -- bytes of v and of o in a strL cell, and of o in a strL record
   pub v_width : ℕ
   pub o_width : ℕ
   pub record_width : ℕ
@@ -180,7 +180,7 @@ n_value_labels = ascii "value_labels"
 abbrev pub n_lbl : List ℕ
 n_lbl = ascii "lbl"
 
--- GSO, which starts a str_l record
+-- GSO, which starts a strL record
 abbrev pub t_gso : List ℕ
 t_gso = ascii "GSO"
 

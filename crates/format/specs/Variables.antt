@@ -13,7 +13,7 @@ file_map t o = between (opening t n_map) (closing t n_map) (within (map_count t 
 
 -- ---- types
 
--- the type of a variable: text of a fixed width, str_l (long strings), or one of five numeric types
+-- the type of a variable: text of a fixed width, strL (long strings), or one of five numeric types
 pub data VarType : Type 0 where
   text_type : ℕ → VarType
   strl_type byte_type int_type long_type float_type double_type : VarType
@@ -33,7 +33,7 @@ code_of false long_type = 253
 code_of false float_type = 254
 code_of false double_type = 255
 
--- the type of a code: a numeric type, str_l, else a text of that width
+-- the type of a code: a numeric type, strL, else a text of that width
 abbrev pub type_by : Bool → ℕ → VarType
 type_by t c =
     cond (eqb c (code_of t byte_type)) byte_type
@@ -44,7 +44,7 @@ type_by t c =
     (cond (eqb c (code_of t strl_type)) strl_type
     (text_type c))))))
 
--- the edition has the type: texts from 1 byte to its longest, str_l where it is tagged, all five numeric types
+-- the edition has the type: texts from 1 byte to its longest, strL where it is tagged, all five numeric types
 abbrev pub has_type : Bool → VarType → Bool
 has_type t (text_type w) = leb 1 w && leb w (text_max t)
 has_type t strl_type = t

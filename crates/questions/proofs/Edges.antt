@@ -213,7 +213,7 @@ unfolding labels answer_of search_at
 labels_hold =
     (refl, (refl, (refl, (refl, (refl, (refl, (refl, (refl, (refl, (refl, (refl, (refl, (refl, (refl, (refl, (refl, (refl, (refl, (refl, (refl, (refl, (refl, (refl, (refl, (refl, (refl, (refl, (refl, (refl, (refl, (refl, (refl, (refl, (refl, tt))))))))))))))))))))))))))))))))))
 
--- ---- long strings: 117, one str_l variable, its type at 16, its cell at 18, records from 26 on
+-- ---- long strings: 117, one strL variable, its type at 16, its cell at 18, records from 26 on
 
 -- records that end at z
 abbrev longs_by : ℕ → Layout
@@ -244,7 +244,7 @@ longs_hold : AllHold longs
 unfolding longs answer_of
 longs_hold = (refl, (refl, (refl, (refl, (refl, (refl, (refl, (refl, (refl, tt)))))))))
 
--- ---- 115, and the widths of 118: one str_l variable, its type at 16, its cell at 18, records from 26 on
+-- ---- 115, and the widths of 118: one strL variable, its type at 16, its cell at 18, records from 26 on
 
 abbrev longs_118 : ℕ → Layout
 longs_118 z = lay 118 1 1 1 (0 ∷ 0 ∷ 0 ∷ 0 ∷ 0 ∷ 0 ∷ 0 ∷ 0 ∷ 0 ∷ 12 ∷ 19 ∷ z ∷ 0 ∷ 0 ∷ [])

@@ -55,7 +55,7 @@ module _ (e : Edition) (f : List ℕ) (p : ℕ) (l : List LongString) where
       (pick (eqb ((b - first) % gap) 0 && leb ((b - first) / gap) 26) (letter ((b - first) / gap)) between (refl, refl) (refl, refl))
       (pick (leb minus b && leb b least) number outside h (refl, refl)))
 
-  -- a cell of a type that is neither text nor str_l
+  -- a cell of a type that is neither text nor strL
   pub byte_bare : (c : Cell) (q : ℕ) → Bare e f p l (cell_says byte_type q c)
   byte_bare c q = whole_bare 128 (bits_of c)
 

@@ -49,7 +49,7 @@ module _ (q n : ℕ) where
   taken_some z = rw (ne_eqb n 0 z)
 
 module _ (f : List ℕ) (d : Frame) where
-  -- the numbers v and o of the str_l cell at p
+  -- the numbers v and o of the strL cell at p
   abbrev v_at : ℕ → ℕ
   v_at p = num (order_of d) d.vwidth f p
 

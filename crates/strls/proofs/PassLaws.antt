@@ -1,4 +1,4 @@
--- The pass over the data's str_l cells: variables that are not str_l leave it as it is.
+-- The pass over the data's strL cells: variables that are not strL leave it as it is.
 use mathlib.Core.Path.{◌≡◌, refl, sym, ap, ◌∙◌}
 use Prim.Native.Nat.{ℕ, zero, suc, ◌+◌, ◌-◌, ◌≤◌, ◌<◌}
 use native.Mathlib.Nat.{sub-zero}
@@ -34,13 +34,13 @@ module _ (f : List ℕ) (d : Frame) where
           let g : i + suc m - n ≡ suc i + m - n = omega arith in
           rw (e, g) (ap (λ (s : Step). pick (eqb s.code 0) (run m (suc i) j s.at) broken) (sym (step_other f d i j q e)) ∙ ih)
 
-  -- from i on to the next str_l variable n
+  -- from i on to the next strL variable n
   skip : (i n j q : ℕ) → i ≤ d.k → n ≡ next_long f d (d.k - i) i → run (d.k - n) n j q ≡ run (d.k - i) i j q
   skip i n j q b e =
       let g : i + (d.k - i) ≡ d.k = omega arith in
       rw e (sym (skips (d.k - i) i j q ∙ ap (λ (x : ℕ). run (x - next_long f d (d.k - i) i) (next_long f d (d.k - i) i) j q) g))
 
-  -- the loop over observation j stands at the str_l variable i, or past the last, with the record at q due
+  -- the loop over observation j stands at the strL variable i, or past the last, with the record at q due
   pub record Running (j start i q : ℕ) : Type 0 where
     pub most : i ≤ d.k
     pub long : i < d.k → is_long f d i ≡ true
@@ -86,7 +86,7 @@ module _ (f : List ℕ) (d : Frame) where
 
   -- ---- the data
 
-  -- no variable is str_l: no row need be read
+  -- no variable is strL: no row need be read
   module _ (e : next_long f d d.k 0 ≡ d.k) where
     still : (j q : ℕ) → run d.k 0 j q ≡ going q
     still j q = let z : 0 + d.k - d.k ≡ 0 = omega arith in skips d.k 0 j q ∙ rw (e, z)

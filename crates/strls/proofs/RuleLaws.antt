@@ -74,7 +74,7 @@ plain_link (bits n) v x h = refl
 plain_link (chars t) v x h = refl
 plain_link (link a b) v x h = absurd (never h)
 
--- the cells of a type are references only if it is str_l
+-- the cells of a type are references only if it is strL
 plain_type : (o : Order) (vw ow : ℕ) (f : List ℕ) (p : ℕ) (x : VarType) → str_l (field_by x).kind ≡ false → plain ((cell o vw ow x).read f p) ≡ true
 plain_type o vw ow f p (text_type w) h = refl
 plain_type o vw ow f p strl_type h = absurd (never (sym h))

@@ -28,7 +28,7 @@ use Rattle.section.proofs.WalkOn.{walk_on}
 use Rattle.strls.proofs.PassLaws.{stays}
 use Rattle.strls.proofs.RuleLaws.{rule_is}
 
--- ---- an untagged edition has no str_l variable, so number 11 never refuses
+-- ---- an untagged edition has no strL variable, so number 11 never refuses
 
 none_long : (x : VarType) → str_l (cond (has_type false x) (field_by x) unknown).kind ≡ false
 none_long (text_type w) = go (leb 1 w && leb w 244)

@@ -1,4 +1,4 @@
--- The two tables: offsets of variables, and the str_l variables.
+-- The two tables: offsets of variables, and the strL variables.
 use mathlib.Core.Path.{◌≡◌, refl, sym, ap, ◌∙◌, subst}
 use Prim.Native.Nat.{ℕ, zero, suc, ◌+◌, ◌-◌, ◌*◌, ◌≤◌, ◌<◌}
 use native.Mathlib.Nat.{mul-le-mul_right}
@@ -22,7 +22,7 @@ use Rattle.strls.specs.Links.{str_l, offset_of, place_of, is_long, next_long, Fr
 pub never : false ≡ true → ⊥
 never z = subst (λ (b : Bool). cond b ⊥ (Unit {0})) z tt
 
--- a type whose kind is str_l, and the width of its cells
+-- a type whose kind is strL, and the width of its cells
 pub long_type_lem : (x : VarType) → str_l (field_by x).kind ≡ true → x ≡ strl_type
 long_type_lem (text_type w) h = absurd (never h)
 long_type_lem strl_type h = refl
@@ -66,7 +66,7 @@ module _ (f : List ℕ) (d : Frame) where
       go true q = rw (eqb-true j (i + 1) q) (get_or-set_same t (i + 1) s 0 h ∙ e)
       go false q = get_or-set_other t (i + 1) j s 0 (eqb-false j (i + 1) q) ∙ p j (omega (arith, eqb-false j (i + 1) q))
 
-  -- ---- the next str_l variable
+  -- ---- the next strL variable
 
   pub next_least : (m i : ℕ) → i ≤ next_long f d m i
   next_least zero i = omega arith
@@ -140,7 +140,7 @@ module _ (f : List ℕ) (d : Frame) where
       place_in_lem h =
           omega (arith, place_is, wide T.framed i hi h, cell_in d.tagged (order_of d) f d.types d.k d.data d.n i j T.framed.data_in hi hj)
 
-    -- an entry that is its own number is a str_l variable's
+    -- an entry that is its own number is a strL variable's
     pub self_entry : (i : ℕ) → i < d.k → eqb (get_or s i 0) i ≡ is_long f d i
     self_entry i h =
         let e : d.k - i ≡ suc (d.k - suc i) = omega arith in

@@ -13,7 +13,7 @@ use Rattle.data.specs.Places.{field_at, off_at, place, Typed}
 use Rattle.strls.specs.declared.Frame.{Frame}
 use Rattle.strls.specs.Records.{order_of, longs, pair_at, record_size}
 
--- the kind is str_l
+-- the kind is strL
 abbrev pub str_l : Kind → Bool
 str_l Text = false
 str_l StrL = true
@@ -51,22 +51,22 @@ module _ (f : List ℕ) (d : Frame) where
   abbrev pub place_of : ℕ → ℕ → ℕ
   place_of i j = place d.tagged (order_of d) f d.types d.k d.data i j
 
-  -- variable i is str_l
+  -- variable i is strL
   unfoldable pub is_long : ℕ → Bool
   is_long i = str_l (field_at d.tagged (order_of d) f d.types i).kind
 
-  -- the first str_l variable of m from i on; i + m where there is none
+  -- the first strL variable of m from i on; i + m where there is none
   abbrev pub next_long : ℕ → ℕ → ℕ
   next_long zero i = i
   next_long (suc m) i = cond (is_long i) i (next_long m (suc i))
 
   -- ---- references
 
-  -- the str_l cell at p is the reference (v, x)
+  -- the strL cell at p is the reference (v, x)
   abbrev pub link_at : ℕ → ℕ → ℕ → Bool
   link_at p v x = pair_at (order_of d) d.vwidth d.owidth f p v x
 
-  -- cell (v, x) is there, is str_l, and names itself
+  -- cell (v, x) is there, is strL, and names itself
   unfoldable pub self_at : ℕ → ℕ → Bool
   self_at v x =
       leb 1 v && (leb v d.k && (leb 1 x && (leb x d.n && (is_long (v - 1) && link_at (place_of (v - 1) (x - 1)) v x))))
@@ -119,7 +119,7 @@ module _ (f : List ℕ) (d : Frame) where
   abbrev pub Offsets : ℕ → List ℕ → Type 0
   Offsets k t = (i : ℕ) → i ≤ k → get_or t i 0 ≡ offset_of i
 
-  -- entry i, from h on, is the first str_l variable at or after i, k where there is none
+  -- entry i, from h on, is the first strL variable at or after i, k where there is none
   abbrev pub Nexts : ℕ → List ℕ → Type 0
   Nexts h s = (i : ℕ) → h ≤ i → i ≤ d.k → get_or s i 0 ≡ next_long (d.k - i) i
 

@@ -139,7 +139,7 @@ fn record_size(f: &[u8], d: Frame, q: usize, v: usize, o: usize) -> usize
     if kind_ok(f, q + h, kind, n) { h + n } else { 0 }
 }
 
-// Whether variable `i` is str_l.
+// Whether variable `i` is strL.
 fn long_at(f: &[u8], d: Frame, i: usize) -> bool
     requires { Framed f.now d × (i < d.k) }
     ensures { result ≡ is_long f.now d i }
@@ -165,7 +165,7 @@ fn choose(b: bool, x: u16, y: u16) -> u16
     if b { x } else { y }
 }
 
-// Into `s`, for each variable, the first str_l variable at or after it, `k` where there is none.
+// Into `s`, for each variable, the first strL variable at or after it, `k` where there is none.
 fn fill_nexts(s: &mut [u16; 32768], f: &[u8], d: Frame)
     requires { Framed f.now d × (length s.old ≡ 32768) }
     ensures { Nexts f.now d 0 s.new }
@@ -196,7 +196,7 @@ fn fill_offsets(t: &mut [u32; 32768], f: &[u8], d: Frame)
     }
 }
 
-// Whether the str_l cell at `p` is the reference (`v`, `o`).
+// Whether the strL cell at `p` is the reference (`v`, `o`).
 fn link_at(f: &[u8], d: Frame, p: usize, v: usize, o: usize) -> bool
     requires { (p + 8 ≤ length f.now) × (d.vwidth + d.owidth ≡ 8) }
     ensures { result ≡ link_at f.now d p v o }
@@ -219,7 +219,7 @@ fn place_of(f: &[u8], t: &[u32; 32768], s: &[u16; 32768], d: Frame, i: usize, j:
     d.data + j * (t[k] as usize) + t[i] as usize
 }
 
-// Whether cell (`v`, `o`) is str_l and names itself.
+// Whether cell (`v`, `o`) is strL and names itself.
 fn names_itself(f: &[u8], t: &[u32; 32768], s: &[u16; 32768], d: Frame, v: usize, o: usize) -> bool
     requires { Tabled f.now d t.now s.now }
     ensures { result ≡ self_at f.now d v o }
@@ -256,7 +256,7 @@ fn is_earlier(v: usize, o: usize, i: usize, j: usize) -> bool
     v <= i
 }
 
-// Whether the reference at `p`, the str_l cell of variable `i` in observation `j`, is right.
+// Whether the reference at `p`, the strL cell of variable `i` in observation `j`, is right.
 fn link_ok(
     f: &[u8],
     t: &[u32; 32768],
@@ -292,7 +292,7 @@ fn record_step(f: &[u8], d: Frame, q: usize, v: usize, o: usize) -> Step
     Step { code: 0, at: q + n }
 }
 
-// The str_l variable `i` in observation `j`, where the record at `q` is due. A cell that names itself is right: no other is looked at.
+// The strL variable `i` in observation `j`, where the record at `q` is due. A cell that names itself is right: no other is looked at.
 fn cell_step(
     f: &[u8],
     t: &[u32; 32768],
@@ -315,7 +315,7 @@ fn cell_step(
     Step { code: 0, at: q }
 }
 
-// The str_l cells of observation `j`.
+// The strL cells of observation `j`.
 fn row_run(f: &[u8], t: &[u32; 32768], s: &[u16; 32768], d: Frame, j: usize, start: usize) -> Step
     requires { Tabled f.now d t.now s.now × (j < d.n) × (start ≤ length f.now) }
     ensures { Ran f.now (row_run f.now d d.k 0 j start) result }
@@ -334,7 +334,7 @@ fn row_run(f: &[u8], t: &[u32; 32768], s: &[u16; 32768], d: Frame, j: usize, sta
     Step { code: 0, at: q }
 }
 
-// All observations; none is read where no variable is str_l.
+// All observations; none is read where no variable is strL.
 fn data_run(f: &[u8], t: &[u32; 32768], s: &[u16; 32768], d: Frame, start: usize) -> Step
     requires { Tabled f.now d t.now s.now × (start ≤ length f.now) }
     ensures { Ran f.now (data_run f.now d d.n 0 start) result }

@@ -13,7 +13,7 @@ ghost use Rattle.write_data.specs.Blocks.{strewn, block_bytes};
 use codes::Kind;
 
 // Where `n` observations of `k` variables stand: the first row at `p`, the type list at `types`; whether the edition has tags, the
-// byte order, and the widths of v and o in a str_l cell.
+// byte order, and the widths of v and o in a strL cell.
 #[derive(Clone, Copy)]
 pub struct Source {
     pub p: usize,
@@ -26,7 +26,7 @@ pub struct Source {
     pub owidth: usize,
 }
 
-// How cells are read and how they are written: the byte order, and the widths of v and o in a str_l cell.
+// How cells are read and how they are written: the byte order, and the widths of v and o in a strL cell.
 #[derive(Clone, Copy)]
 pub struct Forms {
     pub msf: bool,
@@ -363,7 +363,7 @@ fn one_run(t: &[u32; 32768], r: usize) -> bool
     t[0] % 16 != 0
 }
 
-// The observations of the source, in the byte order of `tomsf` and with v in `tov` and o in `too` bytes of a str_l cell; gives how
+// The observations of the source, in the byte order of `tomsf` and with v in `tov` and o in `too` bytes of a strL cell; gives how
 // many bytes they have.
 pub fn put_rows(out: &mut [u8], f: &[u8], g: Source, tomsf: bool, tov: usize, too: usize) -> usize
     requires { Sourced f.now g × (g.n * row_span f.now g ≤ length out.old) × (tov + too ≡ 8) }
