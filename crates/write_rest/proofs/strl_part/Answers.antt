@@ -212,3 +212,30 @@ returns c =
     let Q = longs_put f u e m op s S to z c.put_records.ensures in
     let X = c.put_tag.ensures in
     puts_as (sym (longs_eq E (order_by z) d)) (enclosed_put L G R a.out.now room P Q c.put_tag.new.out c.put_tag.result X)
+
+pub slice_bounds-put_tag-start : goal.slice_bounds-put_tag-start
+slice_bounds-put_tag-start c =
+    let a = c.args in
+    let f = a.f.now in
+    let u : Bytes f = (λ i. omega (arith, c.shared_slice_known-1.given i)) in
+    let e = a.e in
+    let m = a.msf in
+    let s = a.s in
+    let op = c.requires.0 in
+    let S = c.requires.1 in
+    let to = a.to in
+    let z = a.tomsf in
+    let H = c.requires.2 in
+    let E = numbers_of to in
+    let d = dataset_of f in
+    let room = room_as _ _ (length a.out.now) (sym (longs_eq E (order_by z) d)) c.requires.3 in
+    let L = cond to.tagged (opening true n_strls) [] in
+    let G = longs_in E (order_by z) d in
+    let R = cond to.tagged (closing true n_strls) [] in
+    let h = three_room L G R (length a.out.now) room in
+    let P = c.put_tag-a.ensures in
+    let Q = longs_put f u e m op s S to z c.put_records.ensures in
+    let w = enclosed_long L G R a.out.now room P Q in
+    let p = P.long in
+    let q = Q.long in
+    search rules
