@@ -1,11 +1,9 @@
 #!/usr/bin/env python3
 """Judges the edits that must be refused: whether each wrong thing is refused where, and because of what, its edit file says.
 
-    edits.py [--target DIR] [CRATE..]   judge the logs that `rt ci` or `rt must-fail` left in DIR/must-fail (default: target)
+    edits.py [--target DIR] [CRATE..]   check each edit file of these crates, or of all, and judge what the prover says; logs are in DIR/must-fail (default: target)
     edits.py --names [CRATE..]          only read the edit files, and print each edit
-    edits.py --try CRATE..              try the edits of these crates alone, in a copy of the checkout, and judge them
-    edits.py --apart CRATE..            the same with each edit in a file of its own: whether it is refused alone as it is beside the others, and otherwise
-                                        where only its proof is changed and the code is right
+    edits.py --apart CRATE..            try each edit alone: whether it is refused as it is beside the others
 
 An edit file, crates/NAME/must-fail/*.edit, has one or more edits, since `rt` takes any number of replacements in one check and the prover names each
 function that isn't proved. `rt` itself says only that the whole was refused. An edit is
@@ -18,23 +16,25 @@ function that isn't proved. `rt` itself says only that the whole was refused. An
     new: the text in its place
 
 with one or more `refused:` lines, any number of `also:` lines, and one or more replacements. UNIT is a function; or a file of laws, by its path below proofs/; or
-a file of definitions, as specs/NAME. NEED is the declaration in it that fails (`returns`, `loop-again`, a law's name). WORDS stand in what the prover says of
+a file of definitions, as specs/NAME. NEED is the goal or the law that fails (`returns-in-4`, `loop-i-preserved`, a law's name). WORDS stand in what the prover says of
 it, and are part of the fact that no longer holds. `also:` has what else breaks where a definition is changed.
 
-A proof that walks through its function's code step by step is changed with the code, as the walk of right code doesn't fit wrong code: proofs/FUNCTION/Proof.antt,
-where the edit changes that function's body. Such an edit may add a function that is proved and promises something else, for the body to call: its text in one line, in
-place of a comment between functions. So may an edit of any other function, whose proof then follows in no more than this: how far back a place is (`.before`), and one need
-more, of the added function, which asks for nothing: `(λ c κs. tt)`. Definitions that the added function's contract names are added to a line of `ghost use`.
+An answer is named after its place in the code (`returns-then-x-lt9`), and so are the facts that it cites (`c.if-x-lt9.true`). Where an edit changes a condition, it renames these
+in the function's Answers.antt or Invariants.antt, as a name that is gone would say nothing about a fact. An edit may add a function that is proved and promises something else, for the
+body to call: its text in one line, in place of a comment between functions. Definitions that its contract names are added to a line of `ghost use`.
 
 Refused by this program:
-- an edit of a contract, which would only show that the proof doesn't prove something else, or of a proof but one that follows the code as told above;
+- an edit of a contract, which would only show that the proof doesn't prove something else, or of a proof but for such names;
 - a file in which two edits change one function or name one law: what fails could be the other's;
 - an edit that changes the body of a function and names another one as refused, or a need that is not about what the function promises (see PROMISES);
-- an edit whose function or law does not fail, or fails first elsewhere, or for another reason, or for the form of its proof alone (see FORM); and, where the proof
-  was changed, one that fails for its form anywhere in it;
+- an edit whose function or law does not fail, or fails first elsewhere, or for another reason, or for the form of its proof alone (see FORM);
 - anything else that fails, but by depending on what failed.
+
+A log is made by `rt check` in a copy of the checkout, which begins with what earlier checks on this machine kept, and stays as long as what it was made of.
 """
 import argparse
+import concurrent.futures
+import hashlib
 import os
 import re
 import shutil
@@ -45,22 +45,24 @@ import tempfile
 # Errors of a proof whose names or form no longer fit the code: nothing is said about a fact.
 FORM = re.compile(r"(?:`[^`]*`: )?(?:module `[^`]*` has no `|record `[^`]*` has no field `|`[^`]*` is not in scope|is not admitted)")
 # Errors of what rests on something that was refused.
-DEPENDS = re.compile(r"was not admitted \(it has holes or undetermined implicits, or was rejected\), so this cannot be checked")
-# What ends the label of an edit without its wrong code, which is tried, too, where it changes a proof.
-PROOF_ALONE = "-proof"
-# The needs about what a function promises: its answer, and what its loops keep. Others are about a callee's `requires`, an index or a sum.
-PROMISES = re.compile(r"(returns|.*-again|.*-holds)(-\d+)?$")
+DEPENDS = re.compile(r"declarations? that depends? on `[^`]*`, .*(?:was|were) not checked|was not admitted \(.*\), so this cannot be checked")
+# The goals about what a function promises: its answers, and what its loops keep. Others are about a callee's `requires`, an index or a sum.
+PROMISES = re.compile(r"(returns([-_].*)?|loop-.*-(init|preserved)(-.*)?)$")
 
-ERROR = re.compile(r"(?P<path>/.*?):(?P<line>\d+):\d+: error: (?:`(?P<need>[^`]+)`: )?(?P<text>.*)")
-UNSOLVED = re.compile(r"(?P<path>/.*?):(?P<line>\d+):\d+: `(?P<need>[^`]+)` (?P<text>is not admitted.*)")
-SEARCH = re.compile(r"note: what antt said of a `search` in the proof that rattle made: (?P<path>/.*?):(?P<line>\d+):\d+: (?:`(?P<need>[^`]+)`: )?(?P<text>.*)")
+ERROR = re.compile(r"(?:\./)?(?P<path>(?:src|specs|proofs)/.*?):(?P<line>\d+):\d+: error: (?:`(?P<need>[^`]+)`: )?(?P<text>.*)")
+UNSOLVED = re.compile(r"(?:\./)?(?P<path>(?:src|specs|proofs)/.*?):(?P<line>\d+):\d+: `(?P<need>[^`]+)` (?P<text>is not admitted.*)")
+# An open goal of a function: where it is, what it must prove.
+OPEN = re.compile(r"note: `(?P<need>[^`]+)` of proofs/(?P<unit>.*?)/Answers\.antt (?P<text>must prove: .*|may be false: .*)")
 FUNCTION = re.compile(r"fn (?P<crate>\w+)::(?P<name>[\w:]+): (?P<what>proved|not proved|no proof|could not tell)(?P<rest>.*)")
-HEADS = re.compile(r"/.*?:\d+:\d+: |note: |help: |warning: |fn |enum |struct |logic|library |rattle: ")
+SEARCHED = re.compile(r"`search` did not prove (`[^`]+`(?:(?:, | and )`[^`]+`)*)")
 ITEM = re.compile(r"^(?:pub )?(?:extern \"C\" )?fn (\w+)", re.M)
-WALK = re.compile(r"proofs/(\w+)/Proof\.antt$")
+PROOF = re.compile(r"proofs/([\w+/]+)/(?:Answers|Invariants)\.antt$")
+# A name that the prover makes of a place in the code: words of ours have no dash.
+PLACE = re.compile(r"[\w']+(?:-[\w']+)+")
 NAME = re.compile(r"# (\w+): \S")
 REFUSED = re.compile(r"# refused: (\S+) (\S+): (.*\S)")
 ALSO = re.compile(r"# also: (\S+ \S+(?:, \S+ \S+)*)$")
+PARTS = ("src", "specs", "proofs")
 
 
 def key_of(unit, need):
@@ -84,10 +86,6 @@ class Claim:
 class Edit:
     def __init__(self, name):
         self.name, self.claims, self.pairs, self.lines = name, [], [], []
-
-    def walks(self):
-        """The functions whose proofs it changes."""
-        return {WALK.match(path).group(1) for path, _, _ in self.pairs if WALK.match(path)}
 
 
 class Failure:
@@ -158,7 +156,7 @@ def added_by(edit, pair, folder):
     """The function that a replacement adds in place of a comment; none if it adds none, or one that is there or that the edit doesn't call."""
     path, old, new = pair
     item = re.match(r"fn (\w+).* ensures \{ .* \} \{ .* \}$", new)
-    if not (edit.walks() and path.startswith("src/") and old.startswith("// ") and item):
+    if not (path.startswith("src/") and old.startswith("// ") and item):
         return None
     source, name = read(os.path.join(folder, path)), item.group(1)
     called = any(re.search(rf"\b{name}\(", other[2]) for other in edit.pairs if other != pair)
@@ -172,15 +170,10 @@ def imports(edit, pair, folder):
     return bool(items) and any(added_by(edit, other, folder) for other in edit.pairs)
 
 
-def follows(edit, name, folder):
-    """Whether an edit that adds a function changes no more in a function's proof than how far back a place is, and the need of a callee that asks for nothing."""
-    changes = [(old, new) for path, old, new in edit.pairs if WALK.match(path) and WALK.match(path).group(1) == name]
-    return any(added_by(edit, pair, folder) for pair in edit.pairs) and all(plain_steps(old) == plain_steps(new) for old, new in changes)
-
-
-def plain_steps(line):
-    """A line of a proof without the steps back and the needs that ask for nothing."""
-    return line.replace(" .before", "").replace(" (λ c κs. tt)", "")
+def renames(pair):
+    """Whether a replacement changes no more than names that the prover makes of places in the code."""
+    _, old, new = pair
+    return PLACE.sub("-", old) == PLACE.sub("-", new)
 
 
 def changed_by(edit, folder):
@@ -195,34 +188,30 @@ def changed_by(edit, folder):
     return names
 
 
-def proof_of(name, folder):
-    """The proof file of a function; empty where it has none."""
-    path = os.path.join(folder, "proofs", name, "Proof.antt")
-    return read(path) if os.path.exists(path) else ""
-
-
-def is_walked(name, folder):
-    """Whether a function's proof walks through its code by hand: it names the code."""
-    return bool(re.search(r"^use \S+\.Code as \w+$", proof_of(name, folder), re.M))
-
-
 def is_promise(claim, folder):
-    """Whether a need is about what the function promises, or a law of its proof's own."""
-    laws = re.findall(rf"^\s*{re.escape(claim.need)} : (.*)", proof_of(claim.unit, folder), re.M)
-    return bool(PROMISES.match(claim.need)) or any(not law.startswith("tie.Need-") for law in laws)
+    """Whether a need is about what the function promises, or a lemma of its proof's own."""
+    files = [os.path.join(folder, "proofs", claim.unit, name) for name in ("Answers.antt", "Invariants.antt")]
+    laws = [law for path in files if os.path.exists(path) for law in re.findall(rf"^ *(?:pub )?{re.escape(claim.need)} : (.*)", read(path), re.M)]
+    return bool(PROMISES.match(claim.need)) or any(not law.startswith("goal.") for law in laws)
 
 
 def form_faults(edits, folder):
     """What is wrong with the edits of one file, before any log is read."""
-    faults, seen = [], {}
+    faults, seen, texts = [], {}, {}
     for edit in edits:
         changed = changed_by(edit, folder)
-        if None in changed or any(not path.startswith(("src/", "specs/")) and not WALK.match(path) for path, _, _ in edit.pairs):
+        proofs = {PROOF.match(path).group(1) for path, _, _ in edit.pairs if PROOF.match(path)}
+        if None in changed or any(not path.startswith(("src/", "specs/")) and not PROOF.match(path) for path, _, _ in edit.pairs):
             faults.append(f"{edit.name} changes a contract, a law or what stands between functions: change the body of a function, or a definition")
             continue
-        if not edit.walks() <= {name for name in changed if is_walked(name, folder) or follows(edit, name, folder)}:
-            faults.append(f"{edit.name} changes the proof of a function that is not walked by hand, or whose body it leaves, by more than follows from its code")
+        if not proofs <= changed or not all(renames(pair) for pair in edit.pairs if PROOF.match(pair[0])):
+            faults.append(f"{edit.name} changes the proof of a function whose body it leaves, or more of it than the names of places in the code")
             continue
+        for path, old, new in edit.pairs:
+            text = texts.get(path) or read(os.path.join(folder, path))
+            if text.count(old) != 1:
+                faults.append(f"{edit.name} replaces a text that stands {text.count(old)} times in {path}: {old}")
+            texts[path] = text.replace(old, new)
         for key in changed or {claim.key for claim in edit.claims}:
             if key in seen:
                 faults.append(f"{seen[key]} and {edit.name} both {'change' if changed else 'name'} {key}")
@@ -241,31 +230,38 @@ def unit_of(path, line, folder):
         lines = read(os.path.join(folder, path)).split("\n")
         item = function_at("\n".join(lines[:line]), len("\n".join(lines[:line])))
         return item.group(1) if item else path
-    return path.removesuffix(".antt").removeprefix("proofs/").removesuffix("/Proof")
+    return re.sub(r"/(Answers|Invariants|Proof)$", "", path.removesuffix(".antt").removeprefix("proofs/"))
 
 
-def read_log(log, copy, folder):
-    """A log's failures in order, and each function's line. `copy` ends the path of the crate's edited copy, and `folder` is the crate, with the same lines."""
+def read_log(log, folder):
+    """A log's failures in order, and each function's line. `folder` is the crate, with the same lines."""
     failures, functions = [], {}
     lines, at = log.splitlines(), 0
     while at < len(lines):
-        head = ERROR.match(lines[at]) or UNSOLVED.match(lines[at]) or SEARCH.match(lines[at])
-        function = FUNCTION.match(lines[at])
+        line = lines[at]
+        head, goal, function = ERROR.match(line) or UNSOLVED.match(line), OPEN.match(line), FUNCTION.match(line)
         at += 1
         if function:
             functions[function["name"]] = (function["what"], function["rest"])
-        if head:
-            text = [head["text"]]
-            while at < len(lines) and not HEADS.match(lines[at]):
+            unit = function["name"].replace("::", "/")
+            searched = SEARCHED.search(function["rest"])
+            failures += [Failure(unit, need, "`search` did not prove it") for need in re.findall(r"`([^`]+)`", searched.group(1))] if searched else []
+        if head or goal:
+            text = [(head or goal)["text"]]
+            while at < len(lines) and lines[at].startswith("  ") and not lines[at].startswith("  names you can use"):
                 text.append(lines[at].strip())
                 at += 1
-            unit = unit_of(head["path"].partition(copy)[2] or head["path"], int(head["line"]), folder)
-            failures.append(Failure(unit, head["need"] or "", " ".join(text)))
+        if head:
+            failures.append(Failure(unit_of(head["path"], int(head["line"]), folder), head["need"] or "", " ".join(text)))
+        if goal:
+            for failure in failures:
+                if (failure.unit, failure.need) == (goal["unit"], goal["need"]):
+                    failure.text += "; " + " ".join(text)
     return failures, functions
 
 
-def claim_fault(claim, failures, walked):
-    """Why a claim is not met, of a function whose proof was changed or not; none if it is."""
+def claim_fault(claim, failures):
+    """Why a claim is not met; none if it is."""
     found = [failure for failure in failures if failure.key == claim.key]
     if not found:
         return f"{claim.key} is not refused"
@@ -279,7 +275,7 @@ def claim_fault(claim, failures, walked):
         return f"{claim.key} is first refused elsewhere: {said}"
     if claim.words and claim.words not in first.text:
         return f"{claim.key} is refused for another reason: {said}"
-    unfit = [failure for failure in found if walked and FORM.match(failure.text)]
+    unfit = [failure for failure in found if FORM.match(failure.text)]
     if unfit:
         return f"{claim.key} has a proof that doesn't fit the code: {unfit[0].need}: {unfit[0].text[:300]}"
     return None
@@ -297,12 +293,12 @@ def stray_faults(edits, failures, functions):
     return faults
 
 
-def judge(edits, log, copy, folder):
+def judge(edits, log, folder):
     """What is wrong with a log of these edits."""
     if not re.search(r"^logic=not-proved", log, re.M):
         return ["the prover did not refuse it"]
-    failures, functions = read_log(log, copy, folder)
-    faults = [f"{edit.name}: {fault}" for edit in edits for claim in edit.claims for fault in [claim_fault(claim, failures, claim.unit in edit.walks())] if fault]
+    failures, functions = read_log(log, folder)
+    faults = [f"{edit.name}: {fault}" for edit in edits for claim in edit.claims for fault in [claim_fault(claim, failures)] if fault]
     return faults + stray_faults(edits, failures, functions)
 
 
@@ -320,8 +316,8 @@ def edit_files(root, crates):
                 yield crate, name.removesuffix(".edit"), os.path.join(folder, name)
 
 
-def judge_file(root, target, crate, label, path, apart=False):
-    """A file's edits, and what is wrong with them or their log; where each edit is apart, what is wrong without its wrong code, too."""
+def judge_file(root, target, crate, label, path):
+    """A file's edits, and what is wrong with them or, where there is a folder of logs, with their log."""
     try:
         edits = edits_of(read(path))
     except Bad as bad:
@@ -330,67 +326,24 @@ def judge_file(root, target, crate, label, path, apart=False):
     faults = form_faults(edits, folder)
     if target is None or faults:
         return edits, faults
-    try:
-        faults = judge(edits, read(os.path.join(target, "must-fail", crate, label, ".log")), f"/{crate}/{label}/", folder)
-        for edit in edits if apart else []:
-            alone = label + PROOF_ALONE
-            fault = edit.walks() and alone_fault(edit, read(os.path.join(target, "must-fail", crate, alone, ".log")), f"/{crate}/{alone}/", folder)
-            faults += [fault] if fault else []
-    except FileNotFoundError:
+    log = log_of(target, crate, label)
+    if not os.path.exists(log):
         return edits, ["it was not tried: there is no log"]
-    return edits, faults
+    return edits, judge(edits, read(log), folder)
 
 
-def split(edits, folder, crate):
-    """Writes each edit to a file of its own, and what it changes of proofs, with the functions that it adds, to another."""
-    for edit in edits:
-        with open(os.path.join(folder, f"{edit.name}.edit"), "w", encoding="utf-8") as file:
-            file.write("\n".join(edit.lines) + "\n")
-        if edit.walks():
-            with open(os.path.join(folder, f"{edit.name}{PROOF_ALONE}.edit"), "w", encoding="utf-8") as file:
-                file.writelines("file: {}\nold: {}\nnew: {}\n".format(*pair) for pair in edit.pairs if WALK.match(pair[0]) or added_by(edit, pair, crate) or imports(edit, pair, crate))
-
-
-def alone_fault(edit, log, copy, folder):
-    """That an edit is refused as it is with the right code, too; none if it isn't."""
-    failures, _ = read_log(log, copy, folder)
-    if all(claim_fault(claim, failures, claim.unit in edit.walks()) for claim in edit.claims):
-        return None
-    return f"{edit.name} is refused in the same way where the code is right"
-
-
-def copy_checkout(root, room, crates, apart):
-    """A copy of the crates and of what is proved, in which only these crates have edits."""
-    shutil.copy(os.path.join(root, "crates.txt"), room)
-    shutil.copytree(os.path.join(root, "crates"), os.path.join(room, "crates"), ignore=shutil.ignore_patterns("must-fail"))
-    for part in ("rlib", "stamp", "log"):
-        if os.path.isdir(os.path.join(root, "target", part)):
-            shutil.copytree(os.path.join(root, "target", part), os.path.join(room, "target", part))
-    for crate, _, path in edit_files(root, crates):
-        folder = os.path.join(room, "crates", crate, "must-fail")
-        os.makedirs(folder, exist_ok=True)
-        if apart:
-            split(edits_of(read(path)), folder, os.path.join(root, "crates", crate))
-        else:
-            shutil.copy(path, folder)
-
-
-def try_edits(root, crates, apart):
-    """Tries the edits of some crates in a copy of the checkout, and judges them there."""
-    with tempfile.TemporaryDirectory(dir="/dev/shm" if os.access("/dev/shm", os.W_OK) else None) as room:
-        copy_checkout(root, room, crates, apart)
-        subprocess.run(["rt", "must-fail", *crates], cwd=room, env={**os.environ, "TMPDIR": room}, stdout=subprocess.DEVNULL, check=False)
-        for _, label, path in list(edit_files(room, crates)):
-            if label.endswith(PROOF_ALONE):
-                os.remove(path)
-        return judge_all(room, os.path.join(room, "target"), crates, apart=apart)
+def judge_apart(root, target, crate, edits):
+    """What is wrong with each of a file's edits alone."""
+    folder = os.path.join(root, "crates", crate)
+    return [fault for edit in edits for fault in judge([edit], read(log_of(target, crate, edit.name)), folder)]
 
 
 def judge_all(root, target, crates, show=False, apart=False):
     """Judges the edits of these crates, or of all; says what is wrong, and returns how many faults there are."""
     files, wrong, names = 0, [], set()
     for crate, label, path in edit_files(root, crates):
-        edits, faults = judge_file(root, target, crate, label, path, apart)
+        edits, faults = judge_file(root, None if apart else target, crate, label, path)
+        faults += judge_apart(root, target, crate, edits) if apart else []
         for edit in edits:
             if (crate, edit.name) in names:
                 faults.append(f"{edit.name} is the name of another edit, too")
@@ -407,11 +360,114 @@ def judge_all(root, target, crates, show=False, apart=False):
     return len(wrong)
 
 
+def log_of(target, crate, label):
+    return os.path.join(target, "must-fail", crate, label + ".log")
+
+
+def below(root):
+    """The crates of the repository that each crate uses, directly or not."""
+    uses = {}
+    for line in read(os.path.join(root, "crates.txt")).splitlines():
+        name, colon, deps = line.partition("#")[0].partition(":")
+        if colon:
+            uses[name.split()[0]] = deps.split()
+    found = {}
+
+    def all_of(name):
+        if name not in found:
+            found[name] = set()
+            for dep in uses.get(name, []):
+                found[name] |= {dep} | all_of(dep) if dep in uses else set()
+        return found[name]
+
+    return {name: all_of(name) for name in uses}
+
+
+def sum_of(root, crates):
+    """A sum of the texts that a check of these crates reads, and of the kit."""
+    total = hashlib.sha256(subprocess.run(["rt", "version"], stdout=subprocess.PIPE, check=True).stdout)
+    for crate in sorted(crates):
+        for part in PARTS:
+            for top, folders, names in os.walk(os.path.join(root, "crates", crate, part)):
+                folders.sort()
+                for name in sorted(names):
+                    path = os.path.join(top, name)
+                    with open(path, "rb") as file:
+                        total.update(repr((os.path.relpath(path, root), file.read())).encode())
+    return total.hexdigest()
+
+
+def apply(edits, folder):
+    """Replaces the texts of a crate, and returns what its files were."""
+    were = {}
+    for path, old, new in (pair for edit in edits for pair in edit.pairs):
+        file = os.path.join(folder, path)
+        text = read(file)
+        were.setdefault(file, text)
+        if text.count(old) != 1:
+            raise Bad(f"a text stands {text.count(old)} times in {path}: {old}")
+        write(file, text.replace(old, new))
+    return were
+
+
+def write(path, text):
+    os.makedirs(os.path.dirname(path), exist_ok=True)
+    with open(path, "w", encoding="utf-8") as file:
+        file.write(text)
+
+
+def log_crate(room, target, crate, files, jobs):
+    """Makes the logs of a crate's edit files: label, edits and sum of each."""
+    folder = os.path.join(room, "crates", crate)
+    for label, edits, total in files:
+        were = {}
+        try:
+            were = apply(edits, folder)
+            ran = subprocess.run(["rt", "check", *jobs], cwd=folder, stdin=subprocess.DEVNULL, stdout=subprocess.PIPE, stderr=subprocess.STDOUT, errors="replace", check=False)
+            write(log_of(target, crate, label), f"edits: of {total}\n{ran.stdout}")
+        except Bad as bad:
+            write(log_of(target, crate, label), f"edits: {bad}\n")
+        finally:
+            for file, text in were.items():
+                write(file, text)
+
+
+def make_logs(root, target, crates, apart=False):
+    """Makes the logs that are not there yet, or that were made of other texts, in a copy of the checkout."""
+    uses, wanted = below(root), {}
+    for crate, label, path in edit_files(root, crates):
+        try:
+            edits = edits_of(read(path))
+        except Bad:
+            continue
+        for name, some in [(edit.name, [edit]) for edit in edits] if apart else [(label, edits)]:
+            total = hashlib.sha256((sum_of(root, {crate} | uses[crate]) + "".join("\n".join(edit.lines) for edit in some)).encode()).hexdigest()
+            log = log_of(target, crate, name)
+            if not (os.path.exists(log) and read(log).startswith(f"edits: of {total}\n") and re.search("^logic=", read(log), re.M)):
+                wanted.setdefault(crate, []).append((name, some, total))
+    if not wanted:
+        return
+    with tempfile.TemporaryDirectory() as room:
+        shutil.copy(os.path.join(root, "crates.txt"), room)
+        if os.path.exists(os.path.join(root, "HANDLES")):
+            shutil.copy(os.path.join(root, "HANDLES"), room)
+        for crate in uses:
+            for part in PARTS:
+                if os.path.isdir(os.path.join(root, "crates", crate, part)):
+                    shutil.copytree(os.path.join(root, "crates", crate, part), os.path.join(room, "crates", crate, part))
+        workers = min(os.cpu_count() or 1, len(wanted))
+        jobs = ["--jobs", "1"] if workers > 1 else []
+        # the longest first
+        order = sorted(wanted, key=lambda crate: -len(wanted[crate]) * (1 + len(uses[crate])))
+        with concurrent.futures.ThreadPoolExecutor(workers) as pool:
+            for done in [pool.submit(log_crate, room, target, crate, wanted[crate], jobs) for crate in order]:
+                done.result()
+
+
 def main():
     parser = argparse.ArgumentParser(description="judge the edits that must be refused")
     parser.add_argument("--target", default=None)
     parser.add_argument("--names", action="store_true")
-    parser.add_argument("--try", action="store_true", dest="tries")
     parser.add_argument("--apart", action="store_true")
     parser.add_argument("crates", nargs="*")
     words = parser.parse_args()
@@ -419,15 +475,13 @@ def main():
     for crate in words.crates:
         if not os.path.isdir(os.path.join(root, "crates", crate)):
             parser.error(f"there is no crate {crate}")
-    if words.tries or words.apart:
-        if not words.crates:
-            parser.error("--try and --apart take the names of crates")
-        faults = try_edits(root, words.crates, words.apart)
-    elif words.names:
-        faults = judge_all(root, None, words.crates, show=True)
-    else:
-        faults = judge_all(root, os.path.abspath(words.target or os.path.join(root, "target")), words.crates)
-    return 1 if faults else 0
+    if words.names:
+        return 1 if judge_all(root, None, words.crates, show=True) else 0
+    target = os.path.abspath(words.target or os.path.join(root, "target"))
+    if words.apart and not words.crates:
+        parser.error("--apart takes the names of crates")
+    make_logs(root, target, words.crates, words.apart)
+    return 1 if judge_all(root, target, words.crates, apart=words.apart) else 0
 
 
 if __name__ == "__main__":
