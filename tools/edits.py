@@ -326,16 +326,18 @@ def judge_file(root, target, crate, label, path):
     faults = form_faults(edits, folder)
     if target is None or faults:
         return edits, faults
-    log = log_of(target, crate, label)
-    if not os.path.exists(log):
-        return edits, ["it was not tried: there is no log"]
-    return edits, judge(edits, read(log), folder)
+    return edits, judge_log(edits, log_of(target, crate, label), folder)
+
+
+def judge_log(edits, log, folder):
+    """What is wrong with the log of these edits, if there is one."""
+    return judge(edits, read(log), folder) if os.path.exists(log) else ["it was not tried: there is no log"]
 
 
 def judge_apart(root, target, crate, edits):
     """What is wrong with each of a file's edits alone."""
     folder = os.path.join(root, "crates", crate)
-    return [fault for edit in edits for fault in judge([edit], read(log_of(target, crate, edit.name)), folder)]
+    return [f"alone, {fault}" for edit in edits for fault in judge_log([edit], log_of(target, crate, edit.name), folder)]
 
 
 def judge_all(root, target, crates, show=False, apart=False):

@@ -3,24 +3,23 @@
 import contextlib
 import io
 import os
-import shutil
 import tempfile
 import unittest
 
 import edits
 
-SOURCE = """ghost use c.specs.Path.{_≡_};
+SOURCE = """ghost use c.specs.Path.{◌≡◌};
 
 // One more.
 pub fn more(n: u8) -> u8
-    requires { ⌜ n < 255 ⌝ }
-    ensures { λ r. ⌜ r ≡ n + 1 ⌝ }
+    requires { n < 255 }
+    ensures { result ≡ n + 1 }
 {
     n + 1
 }
 
 fn twice(n: u8) -> u8
-    ensures { λ r. ⌜ r ≡ double n ⌝ }
+    ensures { result ≡ double n }
 {
     let m = n;
     n + m
@@ -29,6 +28,23 @@ fn twice(n: u8) -> u8
 fn calls(n: u8) -> u8 {
     more(n)
 }
+
+fn small(n: u8) -> u8
+    ensures { result ≡ small_of n }
+{
+    if n < 9 {
+        return 1;
+    }
+    0
+}
+"""
+SMALL_ANSWERS = """use c.proofs.small.Goals as goal
+
+pub returns-then-n-lt9 : goal.returns-then-n-lt9
+returns-then-n-lt9 c = below c.if-n-lt9.true
+
+at_least : 9 ≤ 9
+at_least = tt
 """
 MORE = """# more_by_two: one is added
 # refused: more returns: `2` (expected)
@@ -37,60 +53,50 @@ old:     n + 1
 new:     n + 2
 """
 TWICE = """# twice_nothing: a number is added to itself
-# refused: twice returns-2: double
+# refused: twice returns: n + 0 ≡ double n
 file: src/lib.rt
 old:     let m = n;
 new:     let m = 0;
 """
-WALKED = """# calls_more: one is added
-# refused: calls walk: `n + 1` (expected)
+SMALL = """# small_to_7: 8 is small
+# refused: small returns-then-n-lt8: `9` (expected)
 file: src/lib.rt
-old: // One more.
-new: fn by_two(n: u8) -> u8 ensures { λ r. ⌜ r ≡ n + 2 ⌝ } { n + 2 }
-old:     more(n)
-new:     by_two(n)
-file: proofs/calls/Proof.antt
-old: use c.proofs.more as callee
-new: use c.proofs.by_two as callee
+old: n < 9
+new: n < 8
+file: proofs/small/Answers.antt
+old: pub returns-then-n-lt9 : goal.returns-then-n-lt9
+new: pub returns-then-n-lt8 : goal.returns-then-n-lt8
+old: returns-then-n-lt9 c = below c.if-n-lt9.true
+new: returns-then-n-lt8 c = below c.if-n-lt8.true
 """
-CALLS_WALK = """use c.proofs.more as callee
-use c.proofs.calls.Code as code
-walk : code.function ≡ callee.function
-walk = refl
-"""
-FOLLOWED = """# more_for_few: one is added
-# refused: more returns: .few .result` (found)
+ADDED = """# more_for_few: one is added
+# refused: more returns: few.result
 file: src/lib.rt
-old: ghost use c.specs.Path.{_≡_};
-new: ghost use c.specs.Path.{_≡_}; ghost use c.specs.Few.{fewOf};
+old: ghost use c.specs.Path.{◌≡◌};
+new: ghost use c.specs.Path.{◌≡◌}; ghost use c.specs.Few.{few_of};
 old: // One more.
-new: fn few(n: u8) -> u8 ensures { λ r. ⌜ r ≡ fewOf n ⌝ } { if n < 9 { n } else { 0 } }
+new: fn few(n: u8) -> u8 ensures { result ≡ few_of n } { if n < 9 { n } else { 0 } }
 old:     n + 1
 new:     few(n) + 1
-file: proofs/more/Proof.antt
-old: returns c = sum (c .before .args .n) (c .if1 .left)
-new: returns c = sum (c .before .before .args .n) (c .before .if1 .left)
-old: more-spec = tie.close (tie.spec returns)
-new: more-spec = tie.close (tie.spec (λ c κs. tt) returns)
 """
-FOLLOW_FAILS = "{at}/proofs/more/Proof.antt:3:9: error: `returns`: the two types differ only where one has `.args .n` (expected)\n  and the other has `.few .result` (found)\n"
-FOLLOW_LINES = "fn c::few: proved\n" + "fn c::more: not proved\n"
 RULE = """# rule_less: twice is two times
-# refused: Laws double-is: `3` (expected)
-# also: Laws double-more, twice returns-2
+# refused: Laws double_is: `3` (expected)
+# also: Laws double_more, twice returns
 file: specs/Twice.antt
 old: double n = 2 * n
 new: double n = 3 * n
 """
-MORE_FAILS = "{at}/proofs/more/Proof.antt:3:9: error: `returns`: the two types differ only where one has `2` (expected)\n  and the other has `1` (found)\n"
-MORE_SPEC = "{at}/proofs/more/Proof.antt:5:9: error: `more-spec`: `returns` was not admitted (it has holes or undetermined implicits, or was rejected), so this cannot be checked\n"
-TWICE_FAILS = "note: what antt said of a `search` in the proof that rattle made: {at}/src/lib.rt:11:1: `returns-2`: `search`: no proof\n  of `double n` was found\n"
+MORE_FAILS = "./proofs/more/Answers.antt:3:9: error: `returns`: the two types differ only where one has `2` (expected)\n  and the other has `1` (found)\n"
+FEW_FAILS = "./proofs/more/Answers.antt:3:9: error: `returns`: expected type `c.few.result + 1 ≡ n + 1`\n"
+SMALL_FAILS = "./proofs/small/Answers.antt:4:9: error: `returns-then-n-lt8`: one has `9` (expected)\n"
+SMALL_UNFIT = "./proofs/small/Answers.antt:4:9: error: `returns-then-n-lt9`: `goal.returns-then-n-lt9`: module `c.proofs.small.Goals` has no `returns-then-n-lt9` that can be named from here\n"
+RESTS = "./proofs/more/Answers.antt:5:9: error: 1 declaration that depends on `returns`, which was rejected, was not checked: more_spec\n"
 MORE_LINE = "fn c::more: not proved\n"
-TWICE_LINE = "fn c::twice: no proof: expected `twice-spec` in {at}/proofs/twice/Proof.antt; `search` does not close `returns-2`\n"
+SMALL_LINE = "fn c::small: not proved\n"
+TWICE_LINE = "fn c::twice: no proof: expected answers in ./proofs/twice/Answers.antt; `search` did not prove `returns`\n"
+TWICE_GOAL = "note: `returns` of proofs/twice/Answers.antt must prove: n + 0\n  ≡ double n\n  names you can use, by step:\n  | c: .args\n"
 CALLS_LINE = "fn c::calls: not proved; it calls `c::more`, which is not proved\n"
-WALK_FAILS = "{at}/proofs/calls/Proof.antt:3:9: error: `walk`: the two types differ only where one has `n + 1` (expected)\n  and the other has `n + 2` (found)\n"
-WALK_UNFIT = "{at}/proofs/calls/Proof.antt:9:9: error: `calls-spec`: `code.calls-c·by-two`: module `Code` has no `calls-c·by-two` that can be named from here\n"
-WALK_LINES = "fn c::calls: not proved; the borrow checker does not cover this function yet\nfn c::by_two: proved\n"
+LAWS_FAIL = "./proofs/Laws.antt:3:9: error: `double_is`: one has `3` (expected)\n./proofs/Laws.antt:9:9: error: `double_more`: no\n"
 END = "logic=not-proved\n"
 
 
@@ -98,20 +104,15 @@ class Judged(unittest.TestCase):
     def setUp(self):
         self.folder = tempfile.TemporaryDirectory()
         self.addCleanup(self.folder.cleanup)
-        os.mkdir(os.path.join(self.folder.name, "src"))
-        with open(os.path.join(self.folder.name, "src", "lib.rt"), "w", encoding="utf-8") as file:
-            file.write(SOURCE)
-        os.makedirs(os.path.join(self.folder.name, "proofs", "calls"))
-        with open(os.path.join(self.folder.name, "proofs", "calls", "Proof.antt"), "w", encoding="utf-8") as file:
-            file.write(CALLS_WALK)
+        for path, text in (("src/lib.rt", SOURCE), ("specs/Twice.antt", "double n = 2 * n\n"), ("proofs/small/Answers.antt", SMALL_ANSWERS), ("proofs/Laws.antt", "look 1\n")):
+            edits.write(os.path.join(self.folder.name, path), text)
 
     def form(self, text):
         return edits.form_faults(edits.edits_of(text), self.folder.name)
 
     def judge(self, text, *log):
         self.assertEqual(self.form(text), [])
-        said = "".join(log).replace("{at}", self.folder.name)
-        return edits.judge(edits.edits_of(text), said, self.folder.name + "/", self.folder.name)
+        return edits.judge(edits.edits_of(text), "".join(log), self.folder.name)
 
     def refused(self, faults, words):
         self.assertEqual(len(faults), 1, faults)
@@ -120,110 +121,85 @@ class Judged(unittest.TestCase):
     # what must be taken
 
     def test_two_functions_of_one_check(self):
-        self.assertEqual(self.judge(MORE + "\n" + TWICE, MORE_FAILS, MORE_SPEC, TWICE_FAILS, MORE_LINE, TWICE_LINE, CALLS_LINE, END), [])
+        self.assertEqual(self.judge(MORE + "\n" + TWICE, MORE_FAILS, RESTS, MORE_LINE, TWICE_LINE, CALLS_LINE, TWICE_GOAL, END), [])
 
     def test_a_definition_and_what_it_breaks(self):
-        said = "{at}/proofs/Laws.antt:3:9: error: `double-is`: one has `3` (expected)\n{at}/proofs/Laws.antt:9:9: error: `double-more`: no\n"
-        self.assertEqual(self.judge(RULE, said, TWICE_FAILS, TWICE_LINE, END), [])
+        self.assertEqual(self.judge(RULE, LAWS_FAIL, TWICE_LINE, TWICE_GOAL, END), [])
 
-    def test_a_walk_that_follows_the_code(self):
-        self.assertEqual(self.judge(WALKED, WALK_FAILS, WALK_LINES, END), [])
-        self.assertEqual(self.judge(WALKED + "\n" + TWICE, WALK_FAILS, TWICE_FAILS, TWICE_LINE, WALK_LINES, END), [])
+    def test_an_answer_that_is_renamed_with_its_place(self):
+        self.assertEqual(self.judge(SMALL, SMALL_FAILS, SMALL_LINE, END), [])
+        self.assertEqual(self.judge(SMALL + "\n" + TWICE, SMALL_FAILS, SMALL_LINE, TWICE_LINE, TWICE_GOAL, END), [])
 
-    def test_a_proof_that_follows_a_callee_more(self):
-        self.assertEqual(self.judge(FOLLOWED, FOLLOW_FAILS, MORE_SPEC, FOLLOW_LINES, CALLS_LINE, END), [])
+    def test_a_function_that_is_added(self):
+        self.assertEqual(self.judge(ADDED, FEW_FAILS, "fn c::few: proved\n", MORE_LINE, CALLS_LINE, END), [])
 
     # what must be refused: logs
 
-    def test_a_walk_that_does_not_fit(self):
-        self.refused(self.judge(WALKED, WALK_FAILS, WALK_UNFIT, WALK_LINES, END), "doesn't fit the code")
-        self.refused(self.judge(WALKED, WALK_UNFIT, WALK_FAILS, WALK_LINES, END), "for its form alone")
-
     def test_an_added_function_that_is_not_proved(self):
-        self.refused(self.judge(WALKED, WALK_FAILS, WALK_LINES.replace("by_two: proved", "by_two: no proof"), END), "by_two is no proof")
-
-    def test_a_proof_that_is_refused_with_the_right_code(self):
-        edit, = edits.edits_of(WALKED)
-        at = self.folder.name
-        for log, same in ((WALK_FAILS, True), (WALK_FAILS + WALK_UNFIT, False), (WALK_FAILS.replace("n + 1", "spot"), False), ("", False)):
-            fault = edits.alone_fault(edit, log.replace("{at}", at), at + "/", at)
-            self.assertEqual(bool(fault), same, log)
-        edit, = edits.edits_of(WALKED.replace("# refused: calls walk", "# refused: calls found: x\n# refused: calls walk"))
-        self.assertTrue(edits.alone_fault(edit, WALK_FAILS.replace("{at}", at), at + "/", at))
-        parts = os.path.join(at, "parts")
-        os.mkdir(parts)
-        edits.split([edit] + edits.edits_of(MORE), parts, at)
-        self.assertEqual(sorted(os.listdir(parts)), ["calls_more-proof.edit", "calls_more.edit", "more_by_two.edit"])
-        alone = edits.read(os.path.join(parts, "calls_more-proof.edit"))
-        self.assertIn("fn by_two", alone)
-        self.assertIn("use c.proofs.by_two", alone)
-        self.assertNotIn("    by_two(n)", alone)
+        self.refused(self.judge(ADDED, FEW_FAILS, "fn c::few: no proof\n", MORE_LINE, END), "few is no proof")
 
     def test_a_log_without_the_error(self):
-        self.refused(self.judge(MORE + "\n" + TWICE, MORE_FAILS, MORE_SPEC, MORE_LINE, END), "twice is not refused")
+        self.refused(self.judge(MORE + "\n" + TWICE, MORE_FAILS, RESTS, MORE_LINE, END), "twice is not refused")
 
     def test_an_edit_that_is_not_refused(self):
         self.refused(self.judge(MORE, "fn c::more: proved\nlogic=proved functions=1\n"), "did not refuse")
         self.refused(self.judge(MORE, ""), "did not refuse")
+        self.refused(self.judge(MORE, "edits: a text stands 2 times in src/lib.rt: n\n"), "did not refuse")
 
     def test_a_wrong_reason(self):
-        self.refused(self.judge(MORE, MORE_FAILS.replace("`2`", "`7`"), MORE_SPEC, MORE_LINE, END), "for another reason")
+        self.refused(self.judge(MORE, MORE_FAILS.replace("`2`", "`7`"), RESTS, MORE_LINE, END), "for another reason")
+        self.refused(self.judge(TWICE, TWICE_LINE, TWICE_GOAL.replace("n + 0", "n"), END), "for another reason")
+        self.refused(self.judge(TWICE, TWICE_LINE, END), "for another reason")
 
     def test_a_wrong_place(self):
-        self.refused(self.judge(MORE, MORE_FAILS.replace("`returns`", "`add-result`"), MORE_FAILS, MORE_LINE, END), "first refused elsewhere")
+        self.refused(self.judge(MORE, MORE_FAILS.replace("`returns`", "`overflow_add-result`"), MORE_FAILS, MORE_LINE, END), "first refused elsewhere")
 
     def test_a_wrong_form(self):
-        form = "{at}/proofs/more/Proof.antt:2:9: error: `returns`: module `Tie` has no `Need-returns` that can be named from here, `2` (expected)\n"
-        self.refused(self.judge(MORE, form, MORE_LINE, END), "for its form alone")
-        for text in ("record `After` has no field `got`, `2` (expected)", "`tie.Need-returns`: module `Tie` has no `Need-returns` that can be named from here, `2` (expected)", "`law` is not in scope: `2` (expected)"):
-            form = "{at}/proofs/more/Proof.antt:2:9: error: `returns`: " + text + "\n"
-            self.refused(self.judge(MORE, form, MORE_LINE, END), "for its form alone")
+        self.refused(self.judge(SMALL, SMALL_UNFIT, SMALL_FAILS, SMALL_LINE, END), "for its form alone")
+        self.refused(self.judge(SMALL, SMALL_FAILS, SMALL_UNFIT, SMALL_LINE, END), "doesn't fit the code")
+        for text in ("record `c.proofs.more.Lts.Else1` has no field `got`, `2` (expected)", "`goal.returns`: module `c.proofs.more.Goals` has no `returns` that can be named from here, `2` (expected)", "`law` is not in scope: `2` (expected)"):
+            self.refused(self.judge(MORE, "./proofs/more/Answers.antt:2:9: error: `returns`: " + text + "\n", MORE_LINE, END), "for its form alone")
 
     def test_advice_is_no_wrong_form(self):
         self.assertEqual(self.judge(MORE, MORE_FAILS + "  `e` is not in scope here, so what is shown does not paste back\n", MORE_LINE, END), [])
 
     def test_a_proof_with_something_undetermined(self):
-        unsolved = "{at}/proofs/more/Proof.antt:2:1: `returns` is not admitted: unsolved\n{at}/proofs/more/Proof.antt:2:9: unsolved ?1 in `returns`: `2` (expected)\n"
+        unsolved = "./proofs/more/Answers.antt:2:1: `returns` is not admitted: unsolved\n./proofs/more/Answers.antt:2:9: unsolved ?1 in `returns`: `2` (expected)\n"
         self.refused(self.judge(MORE, unsolved, MORE_LINE, END), "for its form alone")
-        other = unsolved.replace("proofs/more", "proofs/calls")
-        self.refused(self.judge(MORE, MORE_FAILS, other, MORE_LINE, CALLS_LINE, END), "calls fails too")
+        self.refused(self.judge(MORE, MORE_FAILS, unsolved.replace("proofs/more", "proofs/calls"), MORE_LINE, CALLS_LINE, END), "calls fails too")
 
     def test_only_by_depending(self):
-        self.refused(self.judge(MORE, MORE_SPEC, MORE_LINE, END), "only for what it rests on")
+        self.refused(self.judge(RULE, LAWS_FAIL.replace("`double_more`: no", "1 declaration that depends on `double_is`, which was rejected, was not checked: double_more"), TWICE_LINE, TWICE_GOAL, END), "Laws double_more is not refused")
+        rests = MORE_FAILS.replace("the two types", "`two` was not admitted (it has holes or undetermined implicits, or was rejected), so this cannot be checked")
+        self.refused(self.judge(MORE, rests, MORE_LINE, END), "only for what it rests on")
 
     def test_something_else_fails(self):
-        other = "{at}/proofs/calls/Proof.antt:3:9: error: `returns`: no\n"
+        other = "./proofs/calls/Answers.antt:3:9: error: `returns`: no\n"
         self.refused(self.judge(MORE, MORE_FAILS, other, MORE_LINE, "fn c::calls: not proved\n", END), "calls fails too")
-        self.refused(self.judge(MORE, MORE_FAILS, MORE_LINE, "fn c::calls: no proof: expected `calls-spec`\n", END), "calls is no proof")
+        self.refused(self.judge(MORE, MORE_FAILS, MORE_LINE, "fn c::calls: no proof: expected answers in ./proofs/calls/Answers.antt; `search` did not prove `returns`\n", END), "calls fails too")
         self.refused(self.judge(MORE, MORE_FAILS, MORE_LINE, "fn c::calls: could not tell\n", END), "calls is could not tell")
 
     def test_a_law_that_is_not_named(self):
-        said = "{at}/proofs/Laws.antt:3:9: error: `double-is`: one has `3` (expected)\n{at}/proofs/Laws.antt:9:9: error: `double-more`: no\n"
-        other = "{at}/proofs/Laws.antt:11:9: error: `double-less`: no\n"
-        self.refused(self.judge(RULE, said, other, TWICE_FAILS, TWICE_LINE, END), "Laws double-less fails too")
+        self.refused(self.judge(RULE, LAWS_FAIL, "./proofs/Laws.antt:11:9: error: `double_less`: no\n", TWICE_LINE, END), "Laws double_less fails too")
 
     def test_a_law_that_does_not_fail(self):
-        said = "{at}/proofs/Laws.antt:3:9: error: `double-is`: one has `3` (expected)\n"
-        self.refused(self.judge(RULE, said, TWICE_FAILS, TWICE_LINE, END), "Laws double-more is not refused")
+        self.refused(self.judge(RULE, LAWS_FAIL.split("\n", 1)[0] + "\n", TWICE_LINE, END), "Laws double_more is not refused")
 
     def test_a_file_that_was_not_tried(self):
         root = os.path.join(self.folder.name, "root")
-        os.makedirs(os.path.join(root, "crates", "c", "must-fail"))
-        os.makedirs(os.path.join(root, "crates", "c", "src"))
         for path, text in (("src/lib.rt", SOURCE), ("must-fail/1.edit", MORE)):
-            with open(os.path.join(root, "crates", "c", path), "w", encoding="utf-8") as file:
-                file.write(text)
+            edits.write(os.path.join(root, "crates", "c", path), text)
         (crate, label, path), = edits.edit_files(root, [])
-        found, faults = edits.judge_file(root, os.path.join(root, "target"), crate, label, path)
+        target = os.path.join(root, "target")
+        found, faults = edits.judge_file(root, target, crate, label, path)
         self.assertEqual([edit.name for edit in found], ["more_by_two"])
         self.refused(faults, "was not tried")
         self.assertEqual(edits.judge_file(root, None, crate, label, path)[1], [])
-        log = os.path.join(root, "target", "must-fail", "c", "1")
-        os.makedirs(log)
-        with open(os.path.join(log, ".log"), "w", encoding="utf-8") as file:
-            file.write((MORE_FAILS + MORE_LINE + END).replace("{at}", log))
-        self.assertEqual(edits.judge_file(root, os.path.join(root, "target"), crate, label, path)[1], [])
-        self.assertEqual(edits.judge_file(root, os.path.join(root, "target"), crate, label, path, apart=True)[1], [])
+        edits.write(edits.log_of(target, "c", "1"), MORE_FAILS + MORE_LINE + END)
+        self.assertEqual(edits.judge_file(root, target, crate, label, path)[1], [])
+        self.refused(edits.judge_apart(root, target, "c", found), "was not tried")
+        edits.write(edits.log_of(target, "c", "more_by_two"), MORE_FAILS + MORE_LINE + END)
+        self.assertEqual(edits.judge_apart(root, target, "c", found), [])
         said = io.StringIO()
         with contextlib.redirect_stderr(said), contextlib.redirect_stdout(said):
             self.assertEqual(edits.judge_all(root, None, []), 0)
@@ -231,86 +207,70 @@ class Judged(unittest.TestCase):
             self.assertEqual(edits.judge_all(root, None, []), 1)
         self.assertIn("there is no edit file", said.getvalue())
 
-    def test_a_walk_that_was_not_tried_with_the_right_code(self):
-        root = os.path.join(self.folder.name, "root")
-        shutil.copytree(os.path.join(self.folder.name, "src"), os.path.join(root, "crates", "c", "src"))
-        shutil.copytree(os.path.join(self.folder.name, "proofs"), os.path.join(root, "crates", "c", "proofs"))
-        os.mkdir(os.path.join(root, "crates", "c", "must-fail"))
-        with open(os.path.join(root, "crates", "c", "must-fail", "calls_more.edit"), "w", encoding="utf-8") as file:
-            file.write(WALKED)
-        (crate, label, path), = edits.edit_files(root, [])
+    # how logs are made
 
-        def logged(label, text):
-            log = os.path.join(root, "target", "must-fail", "c", label)
-            os.makedirs(log, exist_ok=True)
-            with open(os.path.join(log, ".log"), "w", encoding="utf-8") as file:
-                file.write(text.replace("{at}", log))
+    def test_the_texts_of_an_edited_crate(self):
+        twice = SMALL + "\n" + TWICE + "old:     let m = 0;\nnew:     let m = 1;\n"
+        were = edits.apply(edits.edits_of(twice), self.folder.name)
+        self.assertEqual(were, {os.path.join(self.folder.name, "src/lib.rt"): SOURCE, os.path.join(self.folder.name, "proofs/small/Answers.antt"): SMALL_ANSWERS})
+        self.assertIn("let m = 1;", edits.read(os.path.join(self.folder.name, "src/lib.rt")))
+        self.assertNotIn("lt9", edits.read(os.path.join(self.folder.name, "proofs/small/Answers.antt")))
+        with self.assertRaises(edits.Bad):
+            edits.apply(edits.edits_of(TWICE), self.folder.name)
 
-        def judged(apart):
-            return edits.judge_file(root, os.path.join(root, "target"), crate, label, path, apart)[1]
-
-        logged("calls_more", WALK_FAILS + WALK_LINES + END)
-        self.assertEqual(judged(False), [])
-        self.refused(judged(True), "was not tried")
-        logged("calls_more-proof", WALK_FAILS + WALK_LINES + END)
-        self.refused(judged(True), "where the code is right")
-        logged("calls_more-proof", WALK_FAILS + WALK_UNFIT + WALK_LINES + END)
-        self.assertEqual(judged(True), [])
+    def test_the_crates_below(self):
+        edits.write(os.path.join(self.folder.name, "crates.txt"), "# NAME: uses\na:\nb: a io\nc staticlib: b\nd: a\n")
+        self.assertEqual(edits.below(self.folder.name), {"a": set(), "b": {"a"}, "c": {"a", "b"}, "d": {"a"}})
 
     # what must be refused: edit files
 
     def test_two_edits_of_one_function(self):
-        again = MORE.replace("more_by_two", "more_by_none").replace("n + 2", "n + 0")
-        self.refused(self.form(MORE + "\n" + again), "both change more")
+        again = TWICE.replace("twice_nothing", "twice_more").replace("let m = n;", "n + m").replace("let m = 0;", "n + n + m")
+        self.refused(self.form(TWICE + "\n" + again), "both change twice")
 
     def test_another_function_is_named(self):
         self.refused(self.form(MORE.replace("refused: more", "refused: calls")), "is to be refused at calls")
 
     def test_a_need_that_is_no_promise(self):
-        for need in ("number-requires", "add-result", "loop-less", "shared-slice-read-if1"):
+        for need in ("number-requires", "overflow_add-result", "loop-k-smaller", "bounds-f", "number-returns"):
             self.refused(self.form(MORE.replace("returns", need)), "not about what more promises")
-        self.assertEqual(self.form(MORE.replace("returns", "loop-again")), [])
-        self.assertEqual(self.form(MORE.replace("returns", "loop-holds-2")), [])
+        for need in ("returns-in-4", "returns-then-n-eq0", "returns-in_default-2", "loop-k-init", "loop-k-preserved", "loop-k-preserved-then-a-b-2"):
+            self.assertEqual(self.form(MORE.replace("returns", need)), [])
 
-    def test_a_law_of_the_proof_itself(self):
-        os.makedirs(os.path.join(self.folder.name, "proofs", "more"))
-        with open(os.path.join(self.folder.name, "proofs", "more", "Proof.antt"), "w", encoding="utf-8") as file:
-            file.write("  read : (c : tie.After-more) → c .got ≡ 1\nadd-result : tie.Need-add-result\n")
-        self.assertEqual(self.form(MORE.replace("returns", "read")), [])
-        self.refused(self.form(MORE.replace("returns", "add-result")), "not about what more promises")
+    def test_a_lemma_of_the_proof_itself(self):
+        self.assertEqual(self.form(SMALL.replace("refused: small returns-then-n-lt8", "refused: small at_least")), [])
+        self.refused(self.form(SMALL.replace("refused: small returns-then-n-lt8", "refused: small at_most")), "not about what small promises")
 
     def test_two_edits_with_one_law(self):
-        again = RULE.replace("rule_less", "rule_more").replace("3 * n", "4 * n")
-        self.refused(self.form(RULE + "\n" + again.replace("# also: Laws double-more, twice returns-2\n", "")), "both name Laws double-is")
+        again = RULE.replace("rule_less", "rule_more").replace("2 * n", "3 * n", 1).replace("new: double n = 3 * n", "new: double n = 4 * n")
+        self.refused(self.form(RULE + "\n" + again.replace("# also: Laws double_more, twice returns\n", "")), "both name Laws double_is")
+
+    def test_a_text_that_is_not_there(self):
+        self.refused(self.form(RULE.replace("2 * n", "5 * n")), "stands 0 times")
 
     def test_an_edit_of_a_contract_or_a_proof(self):
-        contract = MORE.replace("    n + 1\n", "r ≡ n + 1\n").replace("    n + 2", "r ≡ n + 2")
-        self.refused(self.form(contract), "changes a contract")
+        self.refused(self.form(MORE.replace("    n + 1\n", "result ≡ n + 1\n").replace("    n + 2", "result ≡ n + 2")), "changes a contract")
         self.refused(self.form(MORE.replace("    n + 1\n", "// One more.\n")), "changes a contract")
         self.refused(self.form(MORE + "file: proofs/Laws.antt\nold: look 1\nnew: look 2\n"), "changes a contract, a law")
-        self.refused(self.form(MORE + "file: proofs/more/Proof.antt\nold: look 1\nnew: look 2\n"), "not walked by hand")
-        self.refused(self.form(MORE + "file: proofs/calls/Proof.antt\nold: look 1\nnew: look 2\n"), "whose body it leaves")
-        self.refused(self.form(RULE + "file: proofs/calls/Proof.antt\nold: look 1\nnew: look 2\n"), "whose body it leaves")
+        self.refused(self.form(MORE + SMALL[SMALL.index("file: proofs") :]), "whose body it leaves")
+        self.refused(self.form(RULE + SMALL[SMALL.index("file: proofs") :]), "whose body it leaves")
         self.assertEqual(edits.changed_by(edits.edits_of(MORE)[0], self.folder.name), {"more"})
         self.assertEqual(edits.changed_by(edits.edits_of(TWICE)[0], self.folder.name), {"twice"})
 
-    def test_an_added_function(self):
-        self.assertEqual(self.form(WALKED), [])
-        for old, new in (("    by_two(n)", "    more(n + 1)"), ("by_two", "twice"), ("fn by_two", "let by_two"), ("old: // One more.", "old: fn twice(n: u8) -> u8"), ("old: // One more.", "old: // One"), (" { n + 2 }", ""), (" ensures { λ r. ⌜ r ≡ n + 2 ⌝ }", ""), (WALKED[WALKED.index("file: proofs") :], "")):
-            self.refused(self.form(WALKED.replace(old, new)), "changes a contract")
+    def test_an_answer_that_changes_by_more_than_names(self):
+        for old, new in (("new: returns-then-n-lt8 c = below", "new: returns-then-n-lt8 c = above"), ("c.if-n-lt8.true", "c.if-n-lt8.false"), ("c.if-n-lt8.true", "c.true")):
+            self.assertIn(old, SMALL)
+            self.refused(self.form(SMALL.replace(old, new)), "more of it than the names")
 
-    def test_a_proof_that_does_more_than_follow(self):
-        self.assertEqual(edits.changed_by(edits.edits_of(FOLLOWED)[0], self.folder.name), {"more"})
-        for old, new in (("new: returns c = sum", "new: returns c = other"), ("new: more-spec = tie.close (tie.spec (λ c κs. tt)", "new: more-spec = tie.close (tie.spec other"), ("(c .before .before .args .n)", "(c .before .before .args .m)")):
-            self.assertIn(old, FOLLOWED)
-            self.refused(self.form(FOLLOWED.replace(old, new)), "by more than follows from its code")
-        # without a function that is added
-        follows = FOLLOWED[FOLLOWED.index("file: proofs") :]
-        self.refused(self.form(MORE + follows), "by more than follows from its code")
+    def test_an_added_function(self):
+        self.assertEqual(edits.changed_by(edits.edits_of(ADDED)[0], self.folder.name), {"more"})
+        for old, new in (("    few(n) + 1", "    n + 1 + 1"), ("few(n", "twice(n"), ("fn few", "let few"), ("old: // One more.", "old: fn twice(n: u8) -> u8"), ("old: // One more.", "old: // One"), (" { if n < 9 { n } else { 0 } }", ""), (" ensures { result ≡ few_of n }", "")):
+            self.assertIn(old, ADDED)
+            self.refused(self.form(ADDED.replace(old, new)), "changes a contract")
         # other lines between functions
-        self.refused(self.form(FOLLOWED.replace("new: ghost use c.specs.Path.{_≡_}; ghost use c.specs.Few.{fewOf};", "new: ghost use c.specs.Few.{_≡_, fewOf};")), "changes a contract")
-        self.refused(self.form(FOLLOWED.replace("; ghost use c.specs.Few.{fewOf};", "; use few::Few;")), "changes a contract")
-        self.refused(self.form(MORE + FOLLOWED[FOLLOWED.index("old: ghost") : FOLLOWED.index("old: //")]), "changes a contract")
+        self.refused(self.form(ADDED.replace("new: ghost use c.specs.Path.{◌≡◌}; ghost use c.specs.Few.{few_of};", "new: ghost use c.specs.Few.{◌≡◌, few_of};")), "changes a contract")
+        self.refused(self.form(ADDED.replace("; ghost use c.specs.Few.{few_of};", "; use few::Few;")), "changes a contract")
+        self.refused(self.form(MORE + ADDED[ADDED.index("old: ghost") : ADDED.index("old: //")]), "changes a contract")
 
     def test_files_that_are_no_edits(self):
         for text in ("", "# a comment\n", MORE.replace("# refused: more returns: `2` (expected)\n", ""), MORE.replace("# more_by_two: one is added\n", ""),
