@@ -63,6 +63,8 @@ NAME = re.compile(r"# (\w+): \S")
 REFUSED = re.compile(r"# refused: (\S+) (\S+): (.*\S)")
 ALSO = re.compile(r"# also: (\S+ \S+(?:, \S+ \S+)*)$")
 PARTS = ("src", "specs", "proofs")
+# What a check may take of the memory.
+CHECK_MEMORY = 2_500_000_000
 
 
 def key_of(unit, need):
@@ -434,6 +436,22 @@ def log_crate(room, target, crate, files, jobs):
                 write(file, text)
 
 
+def link_or_copy(one, other):
+    try:
+        os.link(one, other)
+    except OSError:
+        shutil.copy2(one, other)
+
+
+def free_memory():
+    """The bytes of memory that are free; none where the system doesn't say."""
+    try:
+        found = re.search(r"^MemAvailable: *(\d+) kB", read("/proc/meminfo"), re.M)
+    except OSError:
+        found = None
+    return int(found.group(1)) * 1024 if found else 0
+
+
 def make_logs(root, target, crates, apart=False):
     """Makes the logs that are not there yet, or that were made of other texts, in a copy of the checkout."""
     uses, wanted = below(root), {}
@@ -454,10 +472,11 @@ def make_logs(root, target, crates, apart=False):
         if os.path.exists(os.path.join(root, "HANDLES")):
             shutil.copy(os.path.join(root, "HANDLES"), room)
         for crate in uses:
-            for part in PARTS:
+            # and the libraries that were built there
+            for part, how in [*((part, shutil.copy2) for part in PARTS), (os.path.join("out", "rlib"), link_or_copy)]:
                 if os.path.isdir(os.path.join(root, "crates", crate, part)):
-                    shutil.copytree(os.path.join(root, "crates", crate, part), os.path.join(room, "crates", crate, part))
-        workers = min(os.cpu_count() or 1, len(wanted))
+                    shutil.copytree(os.path.join(root, "crates", crate, part), os.path.join(room, "crates", crate, part), copy_function=how)
+        workers = max(1, min(os.cpu_count() or 1, len(wanted), free_memory() // CHECK_MEMORY))
         jobs = ["--jobs", "1"] if workers > 1 else []
         # the longest first
         order = sorted(wanted, key=lambda crate: -len(wanted[crate]) * (1 + len(uses[crate])))
