@@ -57,8 +57,9 @@ FUNCTION = re.compile(r"fn (?P<crate>\w+)::(?P<name>[\w:]+): (?P<what>proved|not
 SEARCHED = re.compile(r"`search` did not prove (`[^`]+`(?:(?:, | and )`[^`]+`)*)")
 ITEM = re.compile(r"^(?:pub )?(?:extern \"C\" )?fn (\w+)", re.M)
 PROOF = re.compile(r"proofs/([\w+/]+)/(?:Answers|Invariants)\.antt$")
-# A name that the prover makes of a place in the code: words of ours have no dash.
+# A name that the prover makes of a place in the code: words of ours have no dash. A call alone has its callee's name, others with more.
 PLACE = re.compile(r"[\w']+(?:-[\w']+)+")
+CALL = re.compile(r"\bc\.([\w']+)(?:-[\w']+)*")
 NAME = re.compile(r"# (\w+): \S")
 REFUSED = re.compile(r"# refused: (\S+) (\S+): (.*\S)")
 ALSO = re.compile(r"# also: (\S+ \S+(?:, \S+ \S+)*)$")
@@ -175,7 +176,7 @@ def imports(edit, pair, folder):
 def renames(pair):
     """Whether a replacement changes no more than names that the prover makes of places in the code."""
     _, old, new = pair
-    return PLACE.sub("-", old) == PLACE.sub("-", new)
+    return PLACE.sub("-", CALL.sub(r"c.\1", old)) == PLACE.sub("-", CALL.sub(r"c.\1", new))
 
 
 def changed_by(edit, folder):

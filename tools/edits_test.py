@@ -258,9 +258,11 @@ class Judged(unittest.TestCase):
         self.assertEqual(edits.changed_by(edits.edits_of(TWICE)[0], self.folder.name), {"twice"})
 
     def test_an_answer_that_changes_by_more_than_names(self):
-        for old, new in (("new: returns-then-n-lt8 c = below", "new: returns-then-n-lt8 c = above"), ("c.if-n-lt8.true", "c.if-n-lt8.false"), ("c.if-n-lt8.true", "c.true")):
+        for old, new in (("new: returns-then-n-lt8 c = below", "new: returns-then-n-lt8 c = above"), ("c.if-n-lt8.true", "c.if-n-lt8.false"), ("c.if-n-lt8.true", "c.true"), ("c.if-n-lt8.true", "c.when-n-lt8.true")):
             self.assertIn(old, SMALL)
             self.refused(self.form(SMALL.replace(old, new)), "more of it than the names")
+        for old, new, same in (("c.more.ensures", "c.more-m.ensures", True), ("c.more-m.ensures", "c.more-then-n-lt9.ensures", True), ("c.more.ensures", "c.less.ensures", False), ("c.args.n", "c.args.m", False), ("c.args.n", "c.n", False)):
+            self.assertEqual(edits.renames(("", old, new)), same)
 
     def test_an_added_function(self):
         self.assertEqual(edits.changed_by(edits.edits_of(ADDED)[0], self.folder.name), {"more"})
