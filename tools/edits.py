@@ -30,7 +30,8 @@ Refused by this program:
 - an edit whose function or law does not fail, or fails first elsewhere, or for another reason, or for the form of its proof alone (see FORM);
 - anything else that fails, but by depending on what failed.
 
-A log is made by `rt check` in a copy of the checkout, which begins with what earlier checks on this machine kept, and stays as long as what it was made of.
+A log is made by `rt check` in a copy of the checkout, which begins with what earlier checks on this machine kept. It is kept, under a sum of all that it was made of, in
+$DTA_EDITS or ~/.cache/dta-edits, so a later run in any checkout here makes only those of what changed.
 """
 import argparse
 import concurrent.futures
@@ -64,6 +65,8 @@ NAME = re.compile(r"# (\w+): \S")
 REFUSED = re.compile(r"# refused: (\S+) (\S+): (.*\S)")
 ALSO = re.compile(r"# also: (\S+ \S+(?:, \S+ \S+)*)$")
 PARTS = ("src", "specs", "proofs")
+# A check's verdict.
+ENDED = re.compile(r"^logic=", re.M)
 # What a check may take of the memory.
 CHECK_MEMORY = 2_500_000_000
 
@@ -421,6 +424,20 @@ def write(path, text):
         file.write(text)
 
 
+def kept_at(total):
+    """Where a log is kept."""
+    return os.path.join(os.environ.get("DTA_EDITS") or os.path.expanduser("~/.cache/dta-edits"), total + ".log")
+
+
+def keep(total, log):
+    """Keeps a log for later runs, where that can be."""
+    try:
+        write(kept_at(total) + f".{os.getpid()}", log)
+        os.replace(kept_at(total) + f".{os.getpid()}", kept_at(total))
+    except OSError:
+        pass
+
+
 def log_crate(room, target, crate, files, jobs):
     """Makes the logs of a crate's edit files: label, edits and sum of each."""
     folder = os.path.join(room, "crates", crate)
@@ -429,7 +446,9 @@ def log_crate(room, target, crate, files, jobs):
         try:
             were = apply(edits, folder)
             ran = subprocess.run(["rt", "check", *jobs], cwd=folder, stdin=subprocess.DEVNULL, stdout=subprocess.PIPE, stderr=subprocess.STDOUT, errors="replace", check=False)
-            write(log_of(target, crate, label), f"edits: of {total}\n{ran.stdout}")
+            write(log_of(target, crate, label), ran.stdout)
+            if ENDED.search(ran.stdout):
+                keep(total, ran.stdout)
         except Bad as bad:
             write(log_of(target, crate, label), f"edits: {bad}\n")
         finally:
@@ -454,7 +473,7 @@ def free_memory():
 
 
 def make_logs(root, target, crates, apart=False):
-    """Makes the logs that are not there yet, or that were made of other texts, in a copy of the checkout."""
+    """Makes the logs that are not kept, in a copy of the checkout."""
     uses, wanted = below(root), {}
     for crate, label, path in edit_files(root, crates):
         try:
@@ -463,8 +482,9 @@ def make_logs(root, target, crates, apart=False):
             continue
         for name, some in [(edit.name, [edit]) for edit in edits] if apart else [(label, edits)]:
             total = hashlib.sha256((sum_of(root, {crate} | uses[crate]) + "".join("\n".join(edit.lines) for edit in some)).encode()).hexdigest()
-            log = log_of(target, crate, name)
-            if not (os.path.exists(log) and read(log).startswith(f"edits: of {total}\n") and re.search("^logic=", read(log), re.M)):
+            if os.path.exists(kept_at(total)):
+                write(log_of(target, crate, name), read(kept_at(total)))
+            else:
                 wanted.setdefault(crate, []).append((name, some, total))
     if not wanted:
         return

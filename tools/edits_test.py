@@ -5,6 +5,7 @@ import io
 import os
 import tempfile
 import unittest
+import unittest.mock
 
 import edits
 
@@ -217,6 +218,15 @@ class Judged(unittest.TestCase):
         self.assertNotIn("lt9", edits.read(os.path.join(self.folder.name, "proofs/small/Answers.antt")))
         with self.assertRaises(edits.Bad):
             edits.apply(edits.edits_of(TWICE), self.folder.name)
+
+    def test_logs_are_kept(self):
+        with unittest.mock.patch.dict(os.environ, {"DTA_EDITS": os.path.join(self.folder.name, "kept")}):
+            self.assertFalse(os.path.exists(edits.kept_at("ab")))
+            edits.keep("ab", MORE_FAILS)
+            self.assertEqual(edits.read(edits.kept_at("ab")), MORE_FAILS)
+            self.assertEqual(os.listdir(os.path.dirname(edits.kept_at("ab"))), ["ab.log"])
+        with unittest.mock.patch.dict(os.environ, {"DTA_EDITS": "/dev/null/kept"}):
+            edits.keep("ab", MORE_FAILS)
 
     def test_the_crates_below(self):
         edits.write(os.path.join(self.folder.name, "crates.txt"), "# NAME: uses\na:\nb: a io\nc staticlib: b\nd: a\n")
