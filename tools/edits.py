@@ -65,6 +65,8 @@ NAME = re.compile(r"# (\w+): \S")
 REFUSED = re.compile(r"# refused: (\S+) (\S+): (.*\S)")
 ALSO = re.compile(r"# also: (\S+ \S+(?:, \S+ \S+)*)$")
 PARTS = ("src", "specs", "proofs")
+# What a crate says to those above it: proofs of a crate below are no part of a check.
+STATED = ("src", "specs")
 # A check's verdict.
 ENDED = re.compile(r"^logic=", re.M)
 # What a check may take of the memory.
@@ -91,7 +93,7 @@ class Claim:
 
 class Edit:
     def __init__(self, name):
-        self.name, self.claims, self.pairs, self.lines = name, [], [], []
+        self.name, self.claims, self.pairs = name, [], []
 
 
 class Failure:
@@ -126,8 +128,6 @@ def edits_of(text):
             old = None
         elif line.strip():
             raise Bad(f"a line that is none of an edit's: {line}")
-        if edits and line.strip():
-            edits[-1].lines.append(line)
     for edit in edits:
         if not edit.pairs or not any(claim.words for claim in edit.claims):
             raise Bad(f"{edit.name} has no 'refused:' line, or no replacement")
@@ -391,17 +391,17 @@ def below(root):
     return {name: all_of(name) for name in uses}
 
 
-def sum_of(root, crates):
-    """A sum of the texts that a check of these crates reads, and of the kit."""
+def sum_of(root, crate, uses, edits):
+    """A sum of what the log of a crate's edits is made of: the kit, the crate, what the crates below it say, and the replacements."""
     total = hashlib.sha256(subprocess.run(["rt", "version"], stdout=subprocess.PIPE, check=True).stdout)
-    for crate in sorted(crates):
-        for part in PARTS:
-            for top, folders, names in os.walk(os.path.join(root, "crates", crate, part)):
+    for name in sorted({crate} | uses[crate]):
+        for part in PARTS if name == crate else STATED:
+            for top, folders, names in os.walk(os.path.join(root, "crates", name, part)):
                 folders.sort()
-                for name in sorted(names):
-                    path = os.path.join(top, name)
+                for path in sorted(os.path.join(top, it) for it in names):
                     with open(path, "rb") as file:
                         total.update(repr((os.path.relpath(path, root), file.read())).encode())
+    total.update(repr([edit.pairs for edit in edits]).encode())
     return total.hexdigest()
 
 
@@ -481,7 +481,7 @@ def make_logs(root, target, crates, apart=False):
         except Bad:
             continue
         for name, some in [(edit.name, [edit]) for edit in edits] if apart else [(label, edits)]:
-            total = hashlib.sha256((sum_of(root, {crate} | uses[crate]) + "".join("\n".join(edit.lines) for edit in some)).encode()).hexdigest()
+            total = sum_of(root, crate, uses, some)
             if os.path.exists(kept_at(total)):
                 write(log_of(target, crate, name), read(kept_at(total)))
             else:
