@@ -1,23 +1,14 @@
 -- Questions by number, and answers as numbers.
-use mathlib.Core.Path.{◌≡◌, refl, sym, ap, ◌∙◌}
+use mathlib.Core.Path.{◌≡◌, sym, ap, ◌∙◌}
 use Prim.Native.Nat.{ℕ, ◌≤◌, ◌<◌}
-use mathlib.Core.List.{List, [], ◌∷◌, ◌++◌}
+use mathlib.Core.List.{List, [], ◌++◌}
 use mathlib.Core.Bool.{cond}
 use lib.ListN.{length, drop}
 use lib.Dec.{eqb}
-use lib.IntN.{ℤ, pos, negsuc}
 use native.Mathlib.Omega.{arith}
 use borrow.Author.Tests.{le-leb, lt-leb, eq-eqb, ne_eqb}
-use types.Run.{OneOf, miss}
-use denote.Enum.Declared.{tag_of}
-use Rattle.format.specs.Cells.{Says, whole, single, double, letter, between, outside, words, reference}
-use Rattle.cell.specs.Cells.{says}
 use Rattle.format.specs.Dta.{Layout, verdict}
-use Rattle.questions.specs.Ask.{Question, Answer, cell, ask_words, answer_of, shown}
-use Rattle.asking.specs.Asking.{answer_by}
-use Rattle.asking.specs.declared.Answer as Told
-use Rattle.asking.specs.contracts.Answer.{the_type}
-use Rattle.asking.specs.declared.Answer.TheVariants as A
+use Rattle.questions.specs.Ask.{Question, Answer, ask_words, answer_of, shown}
 use Rattle.coded.specs.Coded.{numbers_of}
 use Rattle.dta_facts.specs.Exports.{layout_in, question_of, no_question, asked_in, shown_by, code_of, file_code, answered}
 
@@ -36,35 +27,6 @@ asked_some f l q i j x h e = rw (le-leb q 15 h) e
 
 pub asked_of : (f : List ℕ) {l m : Layout} {q r : Question} → l ≡ m → q ≡ r → answer_of f l q ≡ answer_of f m r
 asked_of f {l} {m} {q} {r} e h = ap (λ (x : Layout). answer_of f x q) e ∙ ap (λ (x : Question). answer_of f m x) h
-
--- the number of a refusal
-pub code_case : {x k : Told.Answer} → x ≡ k → code_of (answer_by k) ≡ code_of (answer_by x)
-code_case e = ap (λ (y : Told.Answer). code_of (answer_by y)) (sym e)
-
-whole_code : (z : ℤ) → 0 ≡ code_of (cell (whole z))
-whole_code (pos n) = refl
-whole_code (negsuc n) = refl
-
-cell_code : (s : Says) → 0 ≡ code_of (cell s)
-cell_code (whole z) = whole_code z
-cell_code (single x) = refl
-cell_code (double x) = refl
-cell_code (letter k) = refl
-cell_code between = refl
-cell_code outside = refl
-cell_code (words p n) = refl
-cell_code (reference v o) = refl
-
--- any other answer has none
-pub no_code : (x : Told.Answer) → OneOf (1 ∷ 2 ∷ 3 ∷ 4 ∷ 5 ∷ 6 ∷ 7 ∷ []) (tag_of the_type x) → 0 ≡ code_of (answer_by x)
-no_code (A.Refused c) h = absurd (miss (1 ∷ 2 ∷ 3 ∷ 4 ∷ 5 ∷ 6 ∷ 7 ∷ []) 0 tt h)
-no_code (A.Count n) h = refl
-no_code (A.YesNo b) h = refl
-no_code (A.Type k w) h = refl
-no_code (A.Part p n) h = refl
-no_code (A.Content c) h = cell_code (says c)
-no_code A.Plain h = refl
-no_code (A.LongString k p n) h = refl
 
 -- the answer a stored over d, with room for it or not
 pub answer_room : (d : List ℕ) (a : Answer) {w n : List ℕ} → 4 ≤ length d → w ≡ n ++ drop 4 d → n ≡ numbers_of a → w ≡ answered a d
