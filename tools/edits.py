@@ -17,7 +17,7 @@ function that isn't proved. `rt` itself says only that the whole was refused. An
 
 with one or more `refused:` lines, any number of `also:` lines, and one or more replacements. UNIT is a function; or a file of laws, by its path below proofs/; or
 a file of definitions, as specs/NAME. NEED is the goal or the law that fails (`returns-in-4`, `loop-i-preserved`, a law's name). WORDS stand in what the prover says of
-it, and are part of the fact that no longer holds. `also:` has what else breaks where a definition is changed.
+it, and are part of the fact that no longer holds; they stand in what it says of the function's goals before that one, too. `also:` has what else breaks where a definition is changed.
 
 An answer is named after its place in the code (`returns-then-x-lt9`), and so are the facts that it cites (`c.if-x-lt9.true`). Where an edit changes a condition, it renames these
 in the function's Answers.antt or Invariants.antt, as a name that is gone would say nothing about a fact. An edit may add a function that is proved and promises something else, for the
@@ -277,10 +277,15 @@ def claim_fault(claim, failures):
         return f"{claim.key} is refused for its form alone: {said}"
     if first.depends:
         return f"{claim.key} is refused only for what it rests on: {said}"
-    if first.need != claim.need:
+    needs = [failure.need for failure in found]
+    if claim.need not in needs:
         return f"{claim.key} is first refused elsewhere: {said}"
-    if claim.words and claim.words not in first.text:
-        return f"{claim.key} is refused for another reason: {said}"
+    # goals before it may cite the same fact, which then holds in none of them
+    *before, last = found[: needs.index(claim.need) + 1]
+    if any(not claim.words or claim.words not in failure.text for failure in before):
+        return f"{claim.key} is first refused elsewhere: {said}"
+    if claim.words and claim.words not in last.text:
+        return f"{claim.key} is refused for another reason: {last.need}: {last.text[:300]}"
     unfit = [failure for failure in found if FORM.match(failure.text)]
     if unfit:
         return f"{claim.key} has a proof that doesn't fit the code: {unfit[0].need}: {unfit[0].text[:300]}"

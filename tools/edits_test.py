@@ -153,7 +153,13 @@ class Judged(unittest.TestCase):
         self.refused(self.judge(TWICE, TWICE_LINE, END), "for another reason")
 
     def test_a_wrong_place(self):
-        self.refused(self.judge(MORE, MORE_FAILS.replace("`returns`", "`overflow_add-result`"), MORE_FAILS, MORE_LINE, END), "first refused elsewhere")
+        self.refused(self.judge(MORE, MORE_FAILS.replace("`returns`", "`overflow_add-result`"), MORE_LINE, END), "first refused elsewhere")
+
+    def test_a_fact_that_goals_share(self):
+        before = MORE_FAILS.replace("`returns`", "`calls-requires`")
+        self.assertEqual(self.judge(MORE, before, MORE_FAILS, MORE_LINE, END), [])
+        self.refused(self.judge(MORE, before.replace("`2`", "`7`"), MORE_FAILS, MORE_LINE, END), "first refused elsewhere")
+        self.refused(self.judge(MORE, before, MORE_FAILS.replace("`2`", "`7`"), MORE_LINE, END), "for another reason")
 
     def test_a_wrong_form(self):
         self.refused(self.judge(SMALL, SMALL_UNFIT, SMALL_FAILS, SMALL_LINE, END), "for its form alone")
