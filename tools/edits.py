@@ -477,7 +477,7 @@ def free_memory():
     return int(found.group(1)) * 1024 if found else 0
 
 
-def make_logs(root, target, crates, apart=False):
+def make_logs(root, target, crates, apart=False, most=None):
     """Makes the logs that are not kept, in a copy of the checkout."""
     uses, wanted = below(root), {}
     for crate, label, path in edit_files(root, crates):
@@ -502,7 +502,7 @@ def make_logs(root, target, crates, apart=False):
             for part, how in [*((part, shutil.copy2) for part in PARTS), (os.path.join("out", "rlib"), link_or_copy)]:
                 if os.path.isdir(os.path.join(root, "crates", crate, part)):
                     shutil.copytree(os.path.join(root, "crates", crate, part), os.path.join(room, "crates", crate, part), copy_function=how)
-        workers = max(1, min(os.cpu_count() or 1, len(wanted), free_memory() // CHECK_MEMORY))
+        workers = max(1, min(most or os.cpu_count() or 1, len(wanted), free_memory() // CHECK_MEMORY))
         jobs = ["--jobs", "1"] if workers > 1 else []
         # the longest first
         order = sorted(wanted, key=lambda crate: -len(wanted[crate]) * (1 + len(uses[crate])))
@@ -516,6 +516,7 @@ def main():
     parser.add_argument("--target", default=None)
     parser.add_argument("--names", action="store_true")
     parser.add_argument("--apart", action="store_true")
+    parser.add_argument("--jobs", type=int, help="the most checks at once (default: one for each processor)")
     parser.add_argument("crates", nargs="*")
     words = parser.parse_args()
     root = os.path.dirname(os.path.dirname(os.path.abspath(__file__)))
@@ -527,7 +528,7 @@ def main():
     target = os.path.abspath(words.target or os.path.join(root, "target"))
     if words.apart and not words.crates:
         parser.error("--apart takes the names of crates")
-    make_logs(root, target, words.crates, words.apart)
+    make_logs(root, target, words.crates, words.apart, words.jobs)
     return 1 if judge_all(root, target, words.crates, apart=words.apart) else 0
 
 
