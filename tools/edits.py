@@ -30,7 +30,7 @@ Refused by this program:
 - an edit whose function or law does not fail, or fails first elsewhere, or for another reason, or for the form of its proof alone (see FORM);
 - anything else that fails, but by depending on what failed.
 
-A log is made by `rt check` in a copy of the checkout, which begins with what earlier checks on this machine kept. It is kept, under a sum of all that it was made of, in
+A log is made by `rt check` in a copy of the crate and of those below it, which begins with what earlier checks on this machine kept. It is kept, under a sum of all that it was made of, in
 $DTA_EDITS or ~/.cache/dta-edits, so a later run in any checkout here makes only those of what changed.
 """
 import argparse
@@ -412,14 +412,16 @@ def sum_of(root, crate, uses, edits):
 
 def apply(edits, folder):
     """Replaces the texts of a crate, and returns what its files were."""
-    were = {}
+    were, texts = {}, {}
     for path, old, new in (pair for edit in edits for pair in edit.pairs):
         file = os.path.join(folder, path)
-        text = read(file)
-        were.setdefault(file, text)
-        if text.count(old) != 1:
-            raise Bad(f"a text stands {text.count(old)} times in {path}: {old}")
-        write(file, text.replace(old, new))
+        if file not in texts:
+            texts[file] = were[file] = read(file)
+        if texts[file].count(old) != 1:
+            raise Bad(f"a text stands {texts[file].count(old)} times in {path}: {old}")
+        texts[file] = texts[file].replace(old, new)
+    for file, text in texts.items():
+        write(file, text)
     return were
 
 
@@ -443,20 +445,33 @@ def keep(total, log):
         pass
 
 
-def log_crate(room, target, crate, files, jobs):
-    """Makes the logs of a crate's edit files: label, edits and sum of each."""
-    folder = os.path.join(room, "crates", crate)
-    for label, edits, total in files:
-        were = {}
-        try:
-            were = apply(edits, folder)
-            ran = subprocess.run(["rt", "check", *jobs], cwd=folder, stdin=subprocess.DEVNULL, stdout=subprocess.PIPE, stderr=subprocess.STDOUT, errors="replace", check=False)
-            write(log_of(target, crate, label), ran.stdout)
-            if ENDED.search(ran.stdout):
-                keep(total, ran.stdout)
-        except Bad as bad:
-            write(log_of(target, crate, label), f"edits: {bad}\n")
-        finally:
+def copy_crates(root, room, crates):
+    """Copies some crates, with the libraries that were built of them."""
+    lines = read(os.path.join(root, "crates.txt")).splitlines(True)
+    write(os.path.join(room, "crates.txt"), "".join(line for line in lines if line.split(":")[0].split(" ")[0] in crates))
+    if os.path.exists(os.path.join(root, "HANDLES")):
+        shutil.copy(os.path.join(root, "HANDLES"), room)
+    for crate in crates:
+        for part, how in [*((part, shutil.copy2) for part in PARTS), (os.path.join("out", "rlib"), link_or_copy)]:
+            if os.path.isdir(os.path.join(root, "crates", crate, part)):
+                shutil.copytree(os.path.join(root, "crates", crate, part), os.path.join(room, "crates", crate, part), copy_function=how)
+
+
+def log_crate(root, target, crate, uses, files, jobs):
+    """Makes the logs of a crate's edit files, in a copy of it and of those below: label, edits and sum of each."""
+    with tempfile.TemporaryDirectory() as room:
+        copy_crates(root, room, {crate} | uses)
+        folder = os.path.join(room, "crates", crate)
+        for label, edits, total in files:
+            were = {}
+            try:
+                were = apply(edits, folder)
+                ran = subprocess.run(["rt", "check", *jobs], cwd=folder, stdin=subprocess.DEVNULL, stdout=subprocess.PIPE, stderr=subprocess.STDOUT, errors="replace", check=False)
+                write(log_of(target, crate, label), ran.stdout)
+                if ENDED.search(ran.stdout):
+                    keep(total, ran.stdout)
+            except Bad as bad:
+                write(log_of(target, crate, label), f"edits: {bad}\n")
             for file, text in were.items():
                 write(file, text)
 
@@ -478,7 +493,7 @@ def free_memory():
 
 
 def make_logs(root, target, crates, apart=False, most=None):
-    """Makes the logs that are not kept, in a copy of the checkout."""
+    """Makes the logs that are not kept."""
     uses, wanted = below(root), {}
     for crate, label, path in edit_files(root, crates):
         try:
@@ -493,22 +508,12 @@ def make_logs(root, target, crates, apart=False, most=None):
                 wanted.setdefault(crate, []).append((name, some, total))
     if not wanted:
         return
-    with tempfile.TemporaryDirectory() as room:
-        shutil.copy(os.path.join(root, "crates.txt"), room)
-        if os.path.exists(os.path.join(root, "HANDLES")):
-            shutil.copy(os.path.join(root, "HANDLES"), room)
-        for crate in uses:
-            # and the libraries that were built there
-            for part, how in [*((part, shutil.copy2) for part in PARTS), (os.path.join("out", "rlib"), link_or_copy)]:
-                if os.path.isdir(os.path.join(root, "crates", crate, part)):
-                    shutil.copytree(os.path.join(root, "crates", crate, part), os.path.join(room, "crates", crate, part), copy_function=how)
-        workers = max(1, min(most or os.cpu_count() or 1, len(wanted), free_memory() // CHECK_MEMORY))
-        jobs = ["--jobs", "1"] if workers > 1 else []
-        # the longest first
-        order = sorted(wanted, key=lambda crate: -len(wanted[crate]) * (1 + len(uses[crate])))
-        with concurrent.futures.ThreadPoolExecutor(workers) as pool:
-            for done in [pool.submit(log_crate, room, target, crate, wanted[crate], jobs) for crate in order]:
-                done.result()
+    workers = max(1, min(most or os.cpu_count() or 1, len(wanted), free_memory() // CHECK_MEMORY))
+    jobs = ["--jobs", "1"] if workers > 1 else []
+    # the lowest first, whose libraries others then find
+    with concurrent.futures.ThreadPoolExecutor(workers) as pool:
+        for done in [pool.submit(log_crate, root, target, crate, uses[crate], wanted[crate], jobs) for crate in sorted(wanted, key=lambda crate: len(uses[crate]))]:
+            done.result()
 
 
 def main():
