@@ -457,16 +457,43 @@ def copy_crates(root, room, crates):
                 shutil.copytree(os.path.join(root, "crates", crate, part), os.path.join(room, "crates", crate, part), copy_function=how)
 
 
+def is_fresh(root, crate):
+    """Whether the library of a crate that stands in its out/ was put there after its texts."""
+    try:
+        # (a link has the time when it was made in its ctime)
+        made = os.stat(os.path.join(root, "crates", crate, "out", "rlib", f"{crate}.rlib", "format")).st_ctime
+    except OSError:
+        return False
+    return all(os.stat(os.path.join(top, name)).st_ctime <= made for part in PARTS for top, _, names in os.walk(os.path.join(root, "crates", crate, part)) for name in names)
+
+
+def prover(root, crate, uses, kept):
+    """The words of a check over the libraries that `rt ci` left in out/, which `rt check` doesn't take, as it can't tell what they were made of."""
+    kit = os.path.dirname(subprocess.run(["rt", "doc"], stdout=subprocess.PIPE, encoding="utf-8", check=True).stdout.strip())
+    line = next(line for line in read(os.path.join(root, "crates.txt")).splitlines() if re.match(rf"{crate}\b[^:]*:", line))
+    source = "src/main.rt" if os.path.exists(os.path.join(root, "crates", crate, "src", "main.rt")) else "src/lib.rt"
+    words = [os.path.join(kit, "bin", "rattle"), "check", "--crate-name", crate, source, "-L", f"dependency={kit}/rlibs"]
+    for dep in ["std", *line.partition(":")[2].split()]:
+        words += ["--extern", f"{dep}={root}/crates/{dep}/out/rlib/{dep}.rlib" if dep in uses else f"{dep}={kit}/rlibs/{dep}.rlib"]
+    for dep in sorted(uses):
+        words += ["-L", f"dependency={root}/crates/{dep}/out/rlib"]
+    words += ["--crate-type", "staticlib"] if "staticlib" in line.partition(":")[0].split() else []
+    return [*words, "--antt-project", f"{kit}/rattle/logic/antt-project.json", "--logic-built", f"{kit}/logic_built", "--incremental", kept, "--jobs", "1"]
+
+
 def log_crate(root, target, crate, uses, files, jobs):
     """Makes the logs of a crate's edit files, in a copy of it and of those below: label, edits and sum of each."""
     with tempfile.TemporaryDirectory() as room:
         copy_crates(root, room, {crate} | uses)
-        folder = os.path.join(room, "crates", crate)
+        folder, words = os.path.join(room, "crates", crate), ["rt", "check", *jobs]
+        if all(is_fresh(root, dep) for dep in uses) and not all(os.path.exists(os.path.join(root, "crates", dep, "out", "rlib", "stamp")) for dep in uses):
+            words = prover(root, crate, uses, os.path.join(room, "kept"))
+            os.mkdir(os.path.join(room, "kept"))
         for label, edits, total in files:
             were = {}
             try:
                 were = apply(edits, folder)
-                ran = subprocess.run(["rt", "check", *jobs], cwd=folder, stdin=subprocess.DEVNULL, stdout=subprocess.PIPE, stderr=subprocess.STDOUT, errors="replace", check=False)
+                ran = subprocess.run(words, cwd=folder, stdin=subprocess.DEVNULL, stdout=subprocess.PIPE, stderr=subprocess.STDOUT, errors="replace", check=False)
                 write(log_of(target, crate, label), ran.stdout)
                 if ENDED.search(ran.stdout):
                     keep(total, ran.stdout)
