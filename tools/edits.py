@@ -30,7 +30,8 @@ Refused by this program:
 - an edit whose function or law does not fail, or fails first elsewhere, or for another reason, or for the form of its proof alone (see FORM);
 - anything else that fails, but by depending on what failed.
 
-A log is made by `rt check` in a copy of the crate and of those below it, which begins with what earlier checks on this machine kept. It is kept, under a sum of all that it was made of, in
+A log is made by `rt check` in a copy of the crate and of those below it, which begins with what earlier checks on this machine kept; after `rt ci` in a clean clone, over the
+libraries that this left. It is kept, under a sum of all that it was made of, in
 $DTA_EDITS or ~/.cache/dta-edits, so a later run in any checkout here makes only those of what changed.
 """
 import argparse
