@@ -66,8 +66,6 @@ NAME = re.compile(r"# (\w+): \S")
 REFUSED = re.compile(r"# refused: (\S+) (\S+): (.*\S)")
 ALSO = re.compile(r"# also: (\S+ \S+(?:, \S+ \S+)*)$")
 PARTS = ("src", "specs", "proofs")
-# What a crate says to those above it: proofs of a crate below are no part of a check.
-STATED = ("src", "specs")
 # A check's verdict.
 ENDED = re.compile(r"^logic=", re.M)
 # What a check may take of the memory.
@@ -398,10 +396,10 @@ def below(root):
 
 
 def sum_of(root, crate, uses, edits):
-    """A sum of what the log of a crate's edits is made of: the kit, the crate, what the crates below it say, and the replacements."""
+    """A sum of what the log of a crate's edits is made of: the kit, the crate and those below it, and the replacements."""
     total = hashlib.sha256(subprocess.run(["rt", "version"], stdout=subprocess.PIPE, check=True).stdout)
     for name in sorted({crate} | uses[crate]):
-        for part in PARTS if name == crate else STATED:
+        for part in PARTS:
             for top, folders, names in os.walk(os.path.join(root, "crates", name, part)):
                 folders.sort()
                 for path in sorted(os.path.join(top, it) for it in names):
@@ -446,22 +444,21 @@ def keep(total, log):
         pass
 
 
-def copy_crates(root, room, crates):
-    """Copies some crates, with the libraries that were built of them."""
+def copy_crates(root, room, crates, built):
+    """Copies some crates, with the libraries that were built of them where `built`."""
     lines = read(os.path.join(root, "crates.txt")).splitlines(True)
     write(os.path.join(room, "crates.txt"), "".join(line for line in lines if line.split(":")[0].split(" ")[0] in crates))
     if os.path.exists(os.path.join(root, "HANDLES")):
         shutil.copy(os.path.join(root, "HANDLES"), room)
     for crate in crates:
-        for part, how in [*((part, shutil.copy2) for part in PARTS), (os.path.join("out", "rlib"), link_or_copy)]:
+        for part in [*PARTS, os.path.join("out", "rlib")] if built else PARTS:
             if os.path.isdir(os.path.join(root, "crates", crate, part)):
-                shutil.copytree(os.path.join(root, "crates", crate, part), os.path.join(room, "crates", crate, part), copy_function=how)
+                shutil.copytree(os.path.join(root, "crates", crate, part), os.path.join(room, "crates", crate, part))
 
 
 def is_fresh(root, crate):
     """Whether the library of a crate that stands in its out/ was put there after its texts."""
     try:
-        # (a link has the time when it was made in its ctime)
         made = os.stat(os.path.join(root, "crates", crate, "out", "rlib", f"{crate}.rlib", "format")).st_ctime
     except OSError:
         return False
@@ -484,10 +481,11 @@ def prover(root, crate, uses, kept):
 
 def log_crate(root, target, crate, uses, files, jobs):
     """Makes the logs of a crate's edit files, in a copy of it and of those below: label, edits and sum of each."""
+    left = all(is_fresh(root, dep) for dep in uses) and not all(os.path.exists(os.path.join(root, "crates", dep, "out", "rlib", "stamp")) for dep in uses)
     with tempfile.TemporaryDirectory() as room:
-        copy_crates(root, room, {crate} | uses)
+        copy_crates(root, room, {crate} if left else {crate} | uses, not left)
         folder, words = os.path.join(room, "crates", crate), ["rt", "check", *jobs]
-        if all(is_fresh(root, dep) for dep in uses) and not all(os.path.exists(os.path.join(root, "crates", dep, "out", "rlib", "stamp")) for dep in uses):
+        if left:
             words = prover(root, crate, uses, os.path.join(room, "kept"))
             os.mkdir(os.path.join(room, "kept"))
         for label, edits, total in files:
@@ -502,13 +500,6 @@ def log_crate(root, target, crate, uses, files, jobs):
                 write(log_of(target, crate, label), f"edits: {bad}\n")
             for file, text in were.items():
                 write(file, text)
-
-
-def link_or_copy(one, other):
-    try:
-        os.link(one, other)
-    except OSError:
-        shutil.copy2(one, other)
 
 
 def free_memory():
