@@ -230,7 +230,7 @@ class Judged(unittest.TestCase):
         edits.write(os.path.join(root, "crates.txt"), "# NAME: uses\na:\nb staticlib: a\nbc: a b\n")
         for path in ("a/src/lib.rt", "a/out/rlib/a.rlib/format", "a/out/log", "b/src/lib.rt", "b/must-fail/1.edit", "bc/src/lib.rt"):
             edits.write(os.path.join(root, "crates", path), path)
-        edits.copy_crates(root, room, {"a", "b"})
+        edits.copy_crates(root, room, {"a", "b"}, True)
         self.assertEqual(edits.read(os.path.join(room, "crates.txt")), "a:\nb staticlib: a\n")
         found = sorted(os.path.relpath(os.path.join(top, name), room) for top, _, names in os.walk(room) for name in names)
         self.assertEqual(found, ["crates.txt", "crates/a/out/rlib/a.rlib/format", "crates/a/src/lib.rt", "crates/b/src/lib.rt"])
