@@ -1,4 +1,4 @@
-//! Records of the program `dta_ask`, as `rt ci` or `rt check dta_ask` builds it, and the lines that are due, by the independent answers.
+//! Records of the program `dta_ask`, as `rt ci` builds it, and the lines that are due, by the independent answers.
 
 use crate::questions::{ask, numbers, Answer, Cell, Kind, Numbers, Question, Span, Type};
 use crate::{check, stated};

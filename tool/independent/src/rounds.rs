@@ -1,4 +1,4 @@
-//! Records of the program `dta_rounds`, as `rt ci` or `rt check dta_rounds` builds it, and the lines that are due, by the independent writer.
+//! Records of the program `dta_rounds`, as `rt ci` builds it, and the lines that are due, by the independent writer.
 
 use crate::dataset::{dataset, Dataset};
 use crate::generate::Order;
