@@ -36,6 +36,7 @@ $DTA_EDITS or ~/.cache/dta-edits, so a later run in any checkout here makes only
 """
 import argparse
 import concurrent.futures
+import functools
 import hashlib
 import os
 import re
@@ -395,16 +396,29 @@ def below(root):
     return {name: all_of(name) for name in uses}
 
 
+@functools.lru_cache(maxsize=None)
+def kit_line():
+    return subprocess.run(["rt", "version"], stdout=subprocess.PIPE, check=True).stdout
+
+
+@functools.lru_cache(maxsize=None)
+def texts_of(root, crate):
+    """The texts of a crate that a check reads, with their paths."""
+    found = []
+    for part in PARTS:
+        for top, folders, names in os.walk(os.path.join(root, "crates", crate, part)):
+            folders.sort()
+            for path in sorted(os.path.join(top, it) for it in names):
+                with open(path, "rb") as file:
+                    found.append(repr((os.path.relpath(path, root), file.read())).encode())
+    return b"".join(found)
+
+
 def sum_of(root, crate, uses, edits):
     """A sum of what the log of a crate's edits is made of: the kit, the crate and those below it, and the replacements."""
-    total = hashlib.sha256(subprocess.run(["rt", "version"], stdout=subprocess.PIPE, check=True).stdout)
+    total = hashlib.sha256(kit_line())
     for name in sorted({crate} | uses[crate]):
-        for part in PARTS:
-            for top, folders, names in os.walk(os.path.join(root, "crates", name, part)):
-                folders.sort()
-                for path in sorted(os.path.join(top, it) for it in names):
-                    with open(path, "rb") as file:
-                        total.update(repr((os.path.relpath(path, root), file.read())).encode())
+        total.update(texts_of(root, name))
     total.update(repr([edit.pairs for edit in edits]).encode())
     return total.hexdigest()
 
