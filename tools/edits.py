@@ -50,7 +50,7 @@ FORM = re.compile(r"(?:`[^`]*`: )?(?:module `[^`]*` has no `|record `[^`]*` has 
 # Errors of what rests on something that was refused.
 DEPENDS = re.compile(r"declarations? that depends? on `[^`]*`, .*(?:was|were) not checked|was not admitted \(.*\), so this cannot be checked")
 # The goals about what a function promises: its answers, and what its loops keep. Others are about a callee's `requires`, an index or a sum.
-PROMISES = re.compile(r"(returns([-_].*)?|loop-.*-(init|preserved)(-.*)?)$")
+PROMISES = re.compile(r"(returns([-_].*)?|loop(-.*)?-(init|preserved)(-.*)?)$")
 
 ERROR = re.compile(r"(?:\./)?(?P<path>(?:src|specs|proofs)/.*?):(?P<line>\d+):\d+: error: (?:`(?P<need>[^`]+)`: )?(?P<text>.*)")
 UNSOLVED = re.compile(r"(?:\./)?(?P<path>(?:src|specs|proofs)/.*?):(?P<line>\d+):\d+: `(?P<need>[^`]+)` (?P<text>is not admitted.*)")
@@ -58,7 +58,9 @@ UNSOLVED = re.compile(r"(?:\./)?(?P<path>(?:src|specs|proofs)/.*?):(?P<line>\d+)
 OPEN = re.compile(r"note: `(?P<need>[^`]+)` of proofs/(?P<unit>.*?)/Answers\.antt (?P<text>must prove: .*|may be false: .*)")
 FUNCTION = re.compile(r"fn (?P<crate>\w+)::(?P<name>[\w:]+): (?P<what>proved|not proved|no proof|could not tell)(?P<rest>.*)")
 SEARCHED = re.compile(r"`search` did not prove (`[^`]+`(?:(?:, | and )`[^`]+`)*)")
-ITEM = re.compile(r"^(?:pub )?(?:extern \"C\" )?fn (\w+)", re.M)
+ITEM = re.compile(r"^(?: {4})?(?:pub )?(?:extern \"C\" )?fn (\w+)", re.M)
+# The type, after the trait if there is one, whose functions an `impl` block has.
+IMPL = re.compile(r"^impl(?:<[^{]*?>)? (?:(\w+)(?:<([^{]*?)>)? for )?(\w+)[^{;]*\{", re.M)
 PROOF = re.compile(r"proofs/([\w+/]+)/(?:Answers|Invariants)\.antt$")
 # A name that the prover makes of a place in the code: words of ours have no dash. A call alone has its callee's name, others with more.
 PLACE = re.compile(r"[\w']+(?:-[\w']+)+")
@@ -145,17 +147,26 @@ def function_at(source, at):
     return found
 
 
+def name_of(source, item):
+    """The name of a function by its head: of a method, after its type, and the trait that it is of."""
+    if not item.group().startswith(" "):
+        return item.group(1)
+    block = [found for found in IMPL.finditer(source) if found.start() < item.start()][-1]
+    return block.group(3) + (block.group(1) or "") + "".join(re.findall(r"\w+", block.group(2) or "")) + "/" + item.group(1)
+
+
 def body_of(source, at):
     """The name of the function in whose body a place stands; none in a contract or between functions."""
     item = function_at(source, at)
     if not item:
         return None
-    body = source.find("\n{\n", item.start())
-    end = source.find("\n}\n", item.start())
+    indent = "    " if item.group().startswith(" ") else ""
+    body = source.find(f"\n{indent}{{\n", item.start())
+    end = source.find(f"\n{indent}}}\n", item.start())
     head = source[item.start() : source.find("\n", item.start())]
     if head.endswith("{"):
         body = item.start() + len(head) - 1
-    return item.group(1) if 0 <= body < at < end else None
+    return name_of(source, item) if 0 <= body < at < end else None
 
 
 def added_by(edit, pair, folder):
@@ -234,8 +245,9 @@ def unit_of(path, line, folder):
     """The unit that a place in a crate belongs to."""
     if path.startswith("src/"):
         lines = read(os.path.join(folder, path)).split("\n")
-        item = function_at("\n".join(lines[:line]), len("\n".join(lines[:line])))
-        return item.group(1) if item else path
+        before = "\n".join(lines[:line])
+        item = function_at(before, len(before))
+        return name_of(before, item) if item else path
     return re.sub(r"/(Answers|Invariants|Proof)$", "", path.removesuffix(".antt").removeprefix("proofs/"))
 
 

@@ -260,7 +260,7 @@ class Judged(unittest.TestCase):
     def test_a_need_that_is_no_promise(self):
         for need in ("number-requires", "overflow_add-result", "loop-k-smaller", "bounds-f", "number-returns"):
             self.refused(self.form(MORE.replace("returns", need)), "not about what more promises")
-        for need in ("returns-in-4", "returns-then-n-eq0", "returns-in_default-2", "loop-k-init", "loop-k-preserved", "loop-k-preserved-then-a-b-2"):
+        for need in ("returns-in-4", "returns-then-n-eq0", "returns-in_default-2", "loop-init", "loop-preserved", "loop-k-init", "loop-k-preserved", "loop-k-preserved-then-a-b-2"):
             self.assertEqual(self.form(MORE.replace("returns", need)), [])
 
     def test_a_lemma_of_the_proof_itself(self):

@@ -1,19 +1,19 @@
--- An answer's struct as the enum, and the answer to a question.
+-- An answer as the enum, and the answer to a question.
 use mathlib.Core.Path.{◌≡◌, refl, sym, ap, ◌∙◌, subst}
 use Prim.Native.Nat.{ℕ}
 use mathlib.Core.List.{List, []}
-use mathlib.Core.Bool.{Bool, true, false, cond}
-use lib.Dec.{eqb}
-use borrow.Author.Tests.{eq-eqb, ne_eqb}
 use Rattle.format.specs.Dta.{Layout}
 use Rattle.codes.proofs.Laws.{type_back}
 use Rattle.questions.specs.Ask as Spec
 use Rattle.questions.specs.Ask.{answer_of, shown}
 use Rattle.questions.proofs.EachLaws.{Kinds, each_asked}
 use Rattle.cells.proofs.CellLaws.{says_back}
-use Rattle.walks.specs.declared.Words.{Words}
+use Rattle.answers.specs.declared.Part.{Part}
 use Rattle.walks.specs.Answers.{words_by}
-use Rattle.cells.specs.declared.Said.{Said}
+use Rattle.std.specs.Prelude.{Option, Result}
+use Rattle.refusal.specs.declared.Refusal.{Refusal}
+use Rattle.refusal.specs.declared.Refusal.TheVariants.{NotThere, NotReadable}
+use Rattle.cell.specs.declared.Cell.{Cell}
 use Rattle.cells.specs.Cells.{said_by}
 use Rattle.asking.specs.declared.Question as Code
 use Rattle.asking.specs.declared.Question.TheVariants as Q
@@ -21,39 +21,23 @@ use Rattle.asking.specs.declared.Answer as Told
 use Rattle.asking.specs.declared.Answer.TheVariants as A
 use Rattle.asking.specs.Asking.{question_by, told_by, answer_by, Asked, by_cell, by_words}
 
--- the answer a where the number c is 0, else the refusal c
-module _ (a : Told.Answer) (c : ℕ) where
-  pub by_refusal : (c ≡ 0 → ⊥) → A.Refused c ≡ cond (eqb c 0) a (A.Refused c)
-  by_refusal z = sym (ap (λ (b : Bool). cond b a (A.Refused c)) (ne_eqb c 0 z))
-
-  pub by_answer : c ≡ 0 → a ≡ cond (eqb c 0) a (A.Refused c)
-  by_answer z = sym (ap (λ (b : Bool). cond b a (A.Refused c)) (eq-eqb c 0 z))
-
--- label words that are found, or not
-module _ (r : Words) (z : r.code ≡ 0) where
-  pub by_found : r.found ≡ true → A.Part r.at r.len ≡ by_words r
-  by_found h = rw (z, h)
-
-  pub by_plain : r.found ≡ false → A.Plain ≡ by_words r
-  by_plain h = rw (z, h)
-
--- the question q is k, whose answer has the struct r, which is x as the enum
+-- the question q is k, whose answer is r, which is x as the enum
 pub asked : (f : List ℕ) (l : Layout) {R : Type 0} (by : Spec.Answer → R) (as_enum : R → Told.Answer) {q k : Code.Question} {x : Told.Answer} {r : R}
     → q ≡ k → x ≡ as_enum r → r ≡ by (answer_of f l (question_by k))
-    → as_enum (by (Spec.refused 16)) ≡ A.Refused 16 → as_enum (by (Spec.refused 17)) ≡ A.Refused 17 → Kinds (λ a. as_enum (by a) ≡ told_by a) (question_by k)
+    → as_enum (by (Spec.refused 16)) ≡ A.Refused NotThere → as_enum (by (Spec.refused 17)) ≡ A.Refused NotReadable → Kinds (λ a. as_enum (by a) ≡ told_by a) (question_by k)
     → Asked f l q x
 asked f l by as_enum {q} {k} {x} {r} e h i a b g =
     subst (λ (y : Code.Question). Asked f l y x) (sym e)
     (h ∙ ap as_enum i ∙ each_asked (λ y. as_enum (by y) ≡ told_by y) f l (question_by k) a b g)
 
--- a struct that is handed on, as the enum, means what was answered
-pub cell_means : (f : List ℕ) (l : Layout) (i j : ℕ) {r : Said} → r ≡ said_by (answer_of f l (Spec.ask_cell i j)) → answer_by (by_cell r) ≡ answer_of f l (Spec.ask_cell i j)
+-- an answer that is handed on, as the enum, means what was answered
+pub cell_means : (f : List ℕ) (l : Layout) (i j : ℕ) {r : Result Cell Refusal} → r ≡ said_by (answer_of f l (Spec.ask_cell i j)) → answer_by (by_cell r) ≡ answer_of f l (Spec.ask_cell i j)
 cell_means f l i j e =
-    ap (λ (x : Said). answer_by (by_cell x)) e ∙ each_asked (λ a. answer_by (by_cell (said_by a)) ≡ a) f l (Spec.ask_cell i j) refl refl (λ s. ap Spec.cell (says_back s))
+    ap (λ (x : Result Cell Refusal). answer_by (by_cell x)) e ∙ each_asked (λ a. answer_by (by_cell (said_by a)) ≡ a) f l (Spec.ask_cell i j) refl refl (λ s. ap Spec.cell (says_back s))
 
-pub words_means : (f : List ℕ) (l : Layout) (i j : ℕ) {r : Words} → r ≡ words_by (answer_of f l (Spec.ask_words i j [])) → answer_by (by_words r) ≡ answer_of f l (Spec.ask_words i j [])
+pub words_means : (f : List ℕ) (l : Layout) (i j : ℕ) {r : Result (Option Part) Refusal} → r ≡ words_by (answer_of f l (Spec.ask_words i j [])) → answer_by (by_words r) ≡ answer_of f l (Spec.ask_words i j [])
 words_means f l i j e =
-    ap (λ (x : Words). answer_by (by_words x)) e ∙ each_asked (λ a. answer_by (by_words (words_by a)) ≡ a) f l (Spec.ask_words i j []) refl refl ((λ p n. refl), refl)
+    ap (λ (x : Result (Option Part) Refusal). answer_by (by_words x)) e ∙ each_asked (λ a. answer_by (by_words (words_by a)) ≡ a) f l (Spec.ask_words i j []) refl refl ((λ p n. refl), refl)
 
 -- what an answer of the code means is what was answered
 module _ (f : List ℕ) (l : Layout) where

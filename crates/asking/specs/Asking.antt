@@ -1,17 +1,17 @@
 -- The questions and answers of the code, as the definitions have them.
-use Rattle.std.specs.Prelude.{◌≡◌, List, [], cond, ℕ, eqb}
+use Rattle.std.specs.Prelude.{◌≡◌, List, [], ℕ, Bool, Option, Some, None, Result, Ok, Err}
+use Rattle.refusal.specs.declared.Refusal.{Refusal}
+use Rattle.refusal.specs.declared.Refusal.TheVariants.{NotReadable}
+use Rattle.refusal.specs.Refusals.{number_of, refusal_by}
 use Rattle.format.specs.Dta.{Layout}
 use Rattle.codes.specs.Fields.{field_by, type_of}
 use Rattle.cell.specs.Cells.{says, cell_by}
 use Rattle.questions.specs.Ask as Spec
 use Rattle.questions.specs.Ask.{answer_of}
-use Rattle.answers.specs.declared.Number.{Number}
 use Rattle.answers.specs.declared.Part.{Part}
-use Rattle.text_facts.specs.declared.Mark.{Mark}
-use Rattle.variable_facts.specs.declared.Typed.{Typed}
-use Rattle.cells.specs.declared.Said.{Said}
+use Rattle.codes.specs.declared.Field.{Field}
+use Rattle.cell.specs.declared.Cell.{Cell}
 use Rattle.walks.specs.declared.Long.{Long}
-use Rattle.walks.specs.declared.Words.{Words}
 use Rattle.asking.specs.declared.Question as Code
 use Rattle.asking.specs.declared.Question.TheVariants as Q
 use Rattle.asking.specs.declared.Answer as Told
@@ -38,13 +38,13 @@ question_by (Q.LabelWords i j) = Spec.ask_words i j []
 
 -- the code's answer: a type by kind and width of its field; where a cell and where a label table stands is not asked here
 abbrev pub told_by : Spec.Answer → Told.Answer
-told_by (Spec.refused c) = A.Refused c
+told_by (Spec.refused c) = A.Refused (refusal_by c)
 told_by (Spec.count n) = A.Count n
 told_by (Spec.mark b) = A.YesNo b
 told_by (Spec.typed t) = A.Type (field_by t).kind (field_by t).width
 told_by (Spec.part p n) = A.Part p n
-told_by (Spec.column t p n) = A.Refused 17
-told_by (Spec.labels s) = A.Refused 17
+told_by (Spec.column t p n) = A.Refused NotReadable
+told_by (Spec.labels s) = A.Refused NotReadable
 told_by (Spec.cell s) = A.Content (cell_by s)
 told_by (Spec.plain t) = A.Plain
 told_by (Spec.long k p n) = A.LongString k p n
@@ -55,7 +55,7 @@ Asked f l q r = r ≡ told_by (answer_of f l (question_by q))
 
 -- what the code's answer means, where no text is lent
 abbrev pub answer_by : Told.Answer → Spec.Answer
-answer_by (A.Refused c) = Spec.refused c
+answer_by (A.Refused e) = Spec.refused (number_of e)
 answer_by (A.Count n) = Spec.count n
 answer_by (A.YesNo b) = Spec.mark b
 answer_by (A.Type k w) = Spec.typed (type_of k w)
@@ -64,25 +64,33 @@ answer_by (A.Content c) = Spec.cell (says c)
 answer_by A.Plain = Spec.plain []
 answer_by (A.LongString k p n) = Spec.long k p n
 
--- ---- the structs of one question each, as the enum
+-- ---- the answers of one question each, as the enum
 
-abbrev pub by_number : Number → Told.Answer
-by_number r = cond (eqb r.code 0) (A.Count r.value) (A.Refused r.code)
+abbrev pub by_number : Result ℕ Refusal → Told.Answer
+by_number (Ok n) = A.Count n
+by_number (Err e) = A.Refused e
 
-abbrev pub by_part : Part → Told.Answer
-by_part r = cond (eqb r.code 0) (A.Part r.at r.len) (A.Refused r.code)
+abbrev pub by_part : Result Part Refusal → Told.Answer
+by_part (Ok p) = A.Part p.at p.len
+by_part (Err e) = A.Refused e
 
-abbrev pub by_mark : Mark → Told.Answer
-by_mark r = cond (eqb r.code 0) (A.YesNo r.yes) (A.Refused r.code)
+abbrev pub by_mark : Result Bool Refusal → Told.Answer
+by_mark (Ok b) = A.YesNo b
+by_mark (Err e) = A.Refused e
 
-abbrev pub by_type : Typed → Told.Answer
-by_type r = cond (eqb r.code 0) (A.Type r.kind r.width) (A.Refused r.code)
+abbrev pub by_type : Result Field Refusal → Told.Answer
+by_type (Ok t) = A.Type t.kind t.width
+by_type (Err e) = A.Refused e
 
-abbrev pub by_cell : Said → Told.Answer
-by_cell r = cond (eqb r.code 0) (A.Content r.cell) (A.Refused r.code)
+abbrev pub by_cell : Result Cell Refusal → Told.Answer
+by_cell (Ok c) = A.Content c
+by_cell (Err e) = A.Refused e
 
-abbrev pub by_long : Long → Told.Answer
-by_long r = cond (eqb r.code 0) (A.LongString r.kind r.at r.len) (A.Refused r.code)
+abbrev pub by_long : Result Long Refusal → Told.Answer
+by_long (Ok s) = A.LongString s.kind s.at s.len
+by_long (Err e) = A.Refused e
 
-abbrev pub by_words : Words → Told.Answer
-by_words r = cond (eqb r.code 0) (cond r.found (A.Part r.at r.len) A.Plain) (A.Refused r.code)
+abbrev pub by_words : Result (Option Part) Refusal → Told.Answer
+by_words (Ok (Some p)) = A.Part p.at p.len
+by_words (Ok None) = A.Plain
+by_words (Err e) = A.Refused e

@@ -6,14 +6,12 @@ ghost use Rattle.std.specs.Prelude.{◌≡◌};
 ghost use Rattle.checking.specs.Checks.{layout_by};
 ghost use Rattle.asking.specs.Asking.{Asked, by_number, by_part, by_mark, by_type, by_cell, by_long, by_words};
 
-use answers::{Number, Part};
+use answers::Part;
 use cell::Cell;
-use cells::Said;
 use checking::Layout;
-use codes::Kind;
-use text_facts::Mark;
-use variable_facts::Typed;
-use walks::{Long, Words};
+use codes::{Field, Kind};
+use refusal::Refusal;
+use walks::Long;
 
 // A question: of the header; of a variable, counted from 1; of a cell, by variable and observation.
 #[derive(Clone, Copy)]
@@ -36,11 +34,11 @@ pub enum Question {
     LabelWords(u64, u64),
 }
 
-// An answer: a refusal by its number; a number; yes or no; a type by kind and width; a part of the file by place and length; what a cell
+// An answer: a refusal; a number; yes or no; a type by kind and width; a part of the file by place and length; what a cell
 // says; the lent plain text; a long string by kind, place and length.
 #[derive(Clone, Copy)]
 pub enum Answer {
-    Refused(u8),
+    Refused(Refusal),
     Count(u64),
     YesNo(bool),
     Type(Kind, usize),
@@ -50,72 +48,68 @@ pub enum Answer {
     LongString(u8, u64, u64),
 }
 
-fn by_number(r: Number) -> Answer
+fn by_number(r: Result<u64, Refusal>) -> Answer
     ensures { result ≡ by_number r }
 {
-    if r.code != 0 {
-        return Answer::Refused(r.code);
+    match r {
+        Ok(n) => Answer::Count(n),
+        Err(refusal) => Answer::Refused(refusal),
     }
-    Answer::Count(r.value)
 }
 
-fn by_part(r: Part) -> Answer
+fn by_part(r: Result<Part, Refusal>) -> Answer
     ensures { result ≡ by_part r }
 {
-    if r.code != 0 {
-        return Answer::Refused(r.code);
+    match r {
+        Ok(part) => Answer::Part(part.at, part.len),
+        Err(refusal) => Answer::Refused(refusal),
     }
-    Answer::Part(r.at, r.len)
 }
 
-fn by_mark(r: Mark) -> Answer
+fn by_mark(r: Result<bool, Refusal>) -> Answer
     ensures { result ≡ by_mark r }
 {
-    if r.code != 0 {
-        return Answer::Refused(r.code);
+    match r {
+        Ok(yes) => Answer::YesNo(yes),
+        Err(refusal) => Answer::Refused(refusal),
     }
-    Answer::YesNo(r.yes)
 }
 
-fn by_type(r: Typed) -> Answer
+fn by_type(r: Result<Field, Refusal>) -> Answer
     ensures { result ≡ by_type r }
 {
-    if r.code != 0 {
-        return Answer::Refused(r.code);
+    match r {
+        Ok(field) => Answer::Type(field.kind, field.width),
+        Err(refusal) => Answer::Refused(refusal),
     }
-    let kind = r.kind;
-    Answer::Type(kind, r.width)
 }
 
-pub fn by_cell(said: Said) -> Answer
+pub fn by_cell(said: Result<Cell, Refusal>) -> Answer
     ensures { result ≡ by_cell said }
 {
-    if said.code != 0 {
-        return Answer::Refused(said.code);
+    match said {
+        Ok(cell) => Answer::Content(cell),
+        Err(refusal) => Answer::Refused(refusal),
     }
-    let cell = said.cell;
-    Answer::Content(cell)
 }
 
-fn by_long(r: Long) -> Answer
+fn by_long(r: Result<Long, Refusal>) -> Answer
     ensures { result ≡ by_long r }
 {
-    if r.code != 0 {
-        return Answer::Refused(r.code);
+    match r {
+        Ok(long) => Answer::LongString(long.kind, long.at, long.len),
+        Err(refusal) => Answer::Refused(refusal),
     }
-    Answer::LongString(r.kind, r.at, r.len)
 }
 
-pub fn by_words(r: Words) -> Answer
+pub fn by_words(r: Result<Option<Part>, Refusal>) -> Answer
     ensures { result ≡ by_words r }
 {
-    if r.code != 0 {
-        return Answer::Refused(r.code);
+    match r {
+        Ok(Some(part)) => Answer::Part(part.at, part.len),
+        Ok(None) => Answer::Plain,
+        Err(refusal) => Answer::Refused(refusal),
     }
-    if r.found {
-        return Answer::Part(r.at, r.len);
-    }
-    Answer::Plain
 }
 
 // The answer to a question over a file and a layout, right or wrong.

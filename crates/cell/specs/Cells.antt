@@ -1,13 +1,11 @@
 -- What the code's cells and label keys mean, and what reading a cell asks and promises.
-use Rattle.std.specs.Prelude.{◌≡◌, ℕ, ◌+◌, ◌≤◌, true, List, length}
+use Rattle.std.specs.Prelude.{◌≡◌, ℕ, ◌+◌, ◌≤◌, true, List, length, Option, Some, None, ℤ}
 use Rattle.format.specs.Data.{cell_width}
 use Rattle.format.specs.Cells.{Says, whole, single, double, letter, between, outside, words, reference, Key, nothing, seeks}
 use Rattle.codes.specs.declared.Kind.{Kind}
 use Rattle.codes.specs.Fields.{known, type_of}
 use Rattle.cell.specs.declared.Cell.{Cell}
 use Rattle.cell.specs.declared.Cell.TheVariants.{Whole, Single, Double, Letter, Between, Outside, Text, Reference}
-use Rattle.cell.specs.declared.Key as Sought
-use Rattle.cell.specs.declared.Key.TheVariants.{Seeks, Nothing}
 
 -- what a cell says
 abbrev pub says : Cell → Says
@@ -56,6 +54,6 @@ pub record IsCell (s : Says) (c : Cell) : Type 0 where
   pub letters : Lettered (says c)
 
 -- what a label key seeks
-abbrev pub sought : Sought.Key → Key
-sought (Seeks n) = seeks n
-sought Nothing = nothing
+abbrev pub sought : Option ℤ → Key
+sought (Some n) = seeks n
+sought None = nothing

@@ -2,7 +2,7 @@
 
 ghost use Rattle.std.specs.Prelude.{◌≡◌, ◌+◌, ◌*◌, ◌<◌, ◌≤◌, length};
 ghost use Rattle.format.specs.Number.{order_by};
-ghost use Rattle.format.specs.Cells.{says_whole, says_float, says_double, says_at, key_real, key_of};
+ghost use Rattle.format.specs.Cells.{outside, says_whole, says_real, says_float, says_double, says_at, key_real, key_of};
 ghost use Rattle.number.specs.Numbers.{IsNumber};
 ghost use Rattle.codes.specs.Fields.{type_of};
 ghost use Rattle.cell.specs.Cells.{says, Lettered, HasCell, IsCell, sought};
@@ -23,13 +23,6 @@ pub enum Cell {
     Reference(u64, u64),
 }
 
-// What a cell seeks in a label table.
-#[derive(Clone, Copy)]
-pub enum Key {
-    Seeks(i32),
-    Nothing,
-}
-
 // A byte, int or long by its bits: `half` is 128, 32768 or 2^31.
 pub fn whole_cell(n: u32, half: u32) -> Cell
     requires { (27 < half) × (half ≤ 2147483648) × (n < 2 * half) }
@@ -47,56 +40,40 @@ pub fn whole_cell(n: u32, half: u32) -> Cell
     Cell::Whole(-1 - ((half - 1 - (n - half)) as i32))
 }
 
+// What the bits of a float or double say that are no number's: letters start at `FIRST` and are `GAP` apart, up to plus infinity, `TOP`.
+fn missing_cell<const FIRST: u64, const GAP: u64, const TOP: u64>(bits: u64) -> Cell
+    requires { (FIRST ≤ bits) × (0 < GAP) }
+    ensures { says result ≡ says_real FIRST GAP TOP 1 0 outside bits }
+{
+    if TOP < bits {
+        return Cell::Outside;
+    }
+    let d = bits - FIRST;
+    let k = d / GAP;
+    if d % GAP == 0 && k <= 26 {
+        return Cell::Letter(k as u8);
+    }
+    Cell::Between
+}
+
 // A float by its bits.
 pub fn float_cell(bits: u32) -> Cell
     ensures { says result ≡ says_float bits }
 {
-    if bits < 0x7f000000 {
+    if bits < 0x7f000000 || (0x80000000 <= bits && bits <= 0xfeffffff) {
         return Cell::Single(f32::from_bits(bits));
     }
-    if bits <= 0x7f800000 {
-        let d = bits - 0x7f000000;
-        let k = d / 2048;
-        if d % 2048 == 0 {
-            if k <= 26 {
-                return Cell::Letter(k as u8);
-            }
-        }
-        return Cell::Between;
-    }
-    if bits < 0x80000000 {
-        return Cell::Outside;
-    }
-    if bits <= 0xfeffffff {
-        return Cell::Single(f32::from_bits(bits));
-    }
-    Cell::Outside
+    missing_cell::<0x7f000000, 2048, 0x7f800000>(bits as u64)
 }
 
 // A double by its bits.
 pub fn double_cell(bits: u64) -> Cell
     ensures { says result ≡ says_double bits }
 {
-    if bits < 0x7fe0000000000000 {
+    if bits < 0x7fe0000000000000 || (0x8000000000000000 <= bits && bits <= 0xffefffffffffffff) {
         return Cell::Double(f64::from_bits(bits));
     }
-    if bits <= 0x7ff0000000000000 {
-        let d = bits - 0x7fe0000000000000;
-        let k = d / 1099511627776;
-        if d % 1099511627776 == 0 {
-            if k <= 26 {
-                return Cell::Letter(k as u8);
-            }
-        }
-        return Cell::Between;
-    }
-    if bits < 0x8000000000000000 {
-        return Cell::Outside;
-    }
-    if bits <= 0xffefffffffffffff {
-        return Cell::Double(f64::from_bits(bits));
-    }
-    Cell::Outside
+    missing_cell::<0x7fe0000000000000, 1099511627776, 0x7ff0000000000000>(bits)
 }
 
 // The bits of a cell of at most 4 bytes.
@@ -137,40 +114,35 @@ pub fn cell_at(
 }
 
 // The whole number that a double is exactly, where it is in the range of a long's numbers.
-fn double_key(x: f64) -> Key
+fn double_key(x: f64) -> Option<i32>
     ensures { sought result ≡ key_real x }
 {
-    if x > -2147483648.0 {
-        if x < 2147483621.0 {
-            let t = std::num::truncating_f64_to_i64(x);
-            if std::num::nearest_i64_to_f64(t) == x {
-                return Key::Seeks(t as i32);
-            }
+    if x > -2147483648.0 && x < 2147483621.0 {
+        let t = std::num::truncating_f64_to_i64(x);
+        if std::num::nearest_i64_to_f64(t) == x {
+            return Some(t as i32);
         }
     }
-    Key::Nothing
+    None
 }
 
 // The same for a float: its double is the same number.
-fn single_key(x: f32) -> Key
+fn single_key(x: f32) -> Option<i32>
     ensures { sought result ≡ key_real x }
 {
     double_key(std::num::f32_to_f64_with_nan(x))
 }
 
 // What a cell seeks in a label table.
-pub fn key_of(c: Cell) -> Key
+pub fn key_of(c: Cell) -> Option<i32>
     requires { Lettered (says c) }
     ensures { sought result ≡ key_of (says c) }
 {
     match c {
-        Cell::Whole(n) => Key::Seeks(n),
+        Cell::Whole(n) => Some(n),
         Cell::Single(x) => single_key(x),
         Cell::Double(x) => double_key(x),
-        Cell::Letter(k) => Key::Seeks(2147483621 + (k as i32)),
-        Cell::Between => Key::Nothing,
-        Cell::Outside => Key::Nothing,
-        Cell::Text(_, _) => Key::Nothing,
-        Cell::Reference(_, _) => Key::Nothing,
+        Cell::Letter(k) => Some(2147483621 + (k as i32)),
+        Cell::Between | Cell::Outside | Cell::Text(_, _) | Cell::Reference(_, _) => None,
     }
 }

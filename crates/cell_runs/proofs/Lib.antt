@@ -1,2 +1,3 @@
 pub mod NextLaws
+pub mod HeldLaws
 pub mod RunLaws

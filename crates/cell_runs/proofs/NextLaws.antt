@@ -1,13 +1,13 @@
 -- From a column to the next: one width more.
 use mathlib.Core.Path.{◌≡◌, refl, sym, ap, ◌∙◌}
 use Prim.Native.Nat.{ℕ, zero, suc, ◌+◌, ◌-◌, ◌*◌, ◌≤◌, ◌<◌}
-use native.Mathlib.Nat.{zero-add, add-zero, add_assoc}
+use native.Mathlib.Nat.{zero-add}
 use native.Mathlib.Omega.{arith}
 use mathlib.Core.List.{List, [], ◌∷◌}
 use mathlib.Core.Bool.{Bool, true, false, false≢true}
 use lib.ListN.{length, get_or, take}
-use lib.Dec.{eqb, leb}
-use borrow.Author.Tests.{le-leb, lt-ltb, leb-true, leb-false, eq-eqb, ne_eqb, eqb-true, eqb-false}
+use lib.Dec.{leb}
+use borrow.Author.Tests.{le-leb, lt-ltb, leb-true, leb-false}
 use Rattle.format.specs.Number.{Order, order_by}
 use Rattle.format.specs.Grammar.{row_width}
 use Rattle.format.specs.Edition.{Edition, code_width, n_variable_types}
@@ -27,10 +27,10 @@ use Rattle.reading.proofs.AnswerLaws.{edition_widths, answer_shut, answer_open}
 use Rattle.columns.specs.declared.Column.{Column}
 use Rattle.columns.specs.Columns.{capped, column_by}
 use Rattle.columns.proofs.ColumnLaws.{capped_small, capped_sum, consed, types_out, types_at}
-use Rattle.cell_runs.specs.Next.{column_after, next_column, NextInside}
-use Rattle.cells.specs.declared.Row.{Row}
-use Rattle.cells.specs.Cells.{row_in}
-use Rattle.cells.proofs.CellLaws.{Is, away, shut, lost, here, cases, width_is}
+use Rattle.std.specs.Prelude.{Option, Some, None, Result, Ok, Err}
+use Rattle.refusal.specs.declared.Refusal.{Refusal}
+use Rattle.cell_runs.specs.Next.{column_after}
+use Rattle.cells.proofs.CellLaws.{width_is}
 
 pub in_among : (i k : ℕ) → 1 ≤ i → i ≤ k → among i k ≡ true
 in_among i k a b = rw (lt-ltb 0 i a, le-leb i k b)
@@ -60,160 +60,95 @@ capped_next a b = let e = capped_sum 0 a b in rw (zero-add (a + b), zero-add a) 
 
 -- ---- the columns
 
-module _ (f : List ℕ) (l : Layout) (i : ℕ) (q : Opened) where
+module _ (f : List ℕ) (l : Layout) where
+  -- the column of variable k, by the types of all
+  abbrev pub by : Opened → ℕ → Try (List VarType) → Result Column Refusal
+  by q k r =
+      let e = numbers_of q.e in
+      column_by (or_refused (bind r λ t. got (column (get_or t (k - 1) byte_type) (offset_in e t k) (width_in e t))))
+
+  pub by_types : (q : Opened) → Some q ≡ opened_by (edition_in l.release l.order) → (k : ℕ) → among k l.variables ≡ true
+      → (r : Try (List VarType)) → layout_types (numbers_of q.e) (order_by q.msf) f l ≡ r → column_by (answer_of f l (ask_column k)) ≡ by q k r
+  by_types q Q k K r m = ap column_by (answer_open f l (ask_column k) K q Q) ∙ ap (by q k) m
+
+  -- a refusal is that of all variables
+  pub refused_as : (i k : ℕ) → among i l.variables ≡ true → among k l.variables ≡ true → (d : Refusal)
+      → Err d ≡ column_by (answer_of f l (ask_column i)) → Err d ≡ column_by (answer_of f l (ask_column k))
+  refused_as i k I K d D = go (opened_by (edition_in l.release l.order)) refl
+    where
+      go : (x : Option Opened) → opened_by (edition_in l.release l.order) ≡ x → Err d ≡ column_by (answer_of f l (ask_column k))
+      go None X = D ∙ ap column_by (answer_shut f l (ask_column i) I (sym X)) ∙ sym (ap column_by (answer_shut f l (ask_column k) K (sym X)))
+      go (Some q) X = types (layout_types (numbers_of q.e) (order_by q.msf) f l) refl
+        where
+          types : (r : Try (List VarType)) → layout_types (numbers_of q.e) (order_by q.msf) f l ≡ r → Err d ≡ column_by (answer_of f l (ask_column k))
+          types none m = D ∙ by_types q (sym X) i I none m ∙ sym (by_types q (sym X) k K none m)
+          types (got t) m = absurd (false≢true (cc (D ∙ by_types q (sym X) i I (got t) m)))
+
+pub column_as : {x y : Field} → x ≡ y → {a b : ℕ} → a ≡ b → {w v : ℕ} → w ≡ v
+    → ◌≡◌ {A = Result Column Refusal} (Ok (record { field = x; offset = a; row = w })) (Ok (record { field = y; offset = b; row = v }))
+column_as e g h = rw (e, g, h)
+
+sum_as : {a b x y : ℕ} → a ≡ b → x ≡ y → capped (a + x) ≡ capped (b + y)
+sum_as e g = rw (e, g)
+
+-- c is the column of variable i
+module _ (f : List ℕ) (l : Layout) (i : ℕ) (q : Opened) (Q : Some q ≡ opened_by (edition_in l.release l.order)) (I : among i l.variables ≡ true)
+    (c : Column) (C : Ok c ≡ column_by (answer_of f l (ask_column i))) where
   abbrev e : Edition
   e = numbers_of q.e
 
   abbrev o : Order
   o = order_by q.msf
 
-  -- the column of variable k, by the types of all
-  abbrev by : ℕ → Try (List VarType) → Column
-  by k r = column_by (or_refused (bind r λ t. got (column (get_or t (k - 1) byte_type) (offset_in e t k) (width_in e t))))
+  abbrev s : ℕ
+  s = start_of e.tagged l 2 n_variable_types
 
-  -- c is the column of variable i, in a file whose types stand at p, and there is a variable after it
-  pub record Stands (c : Column) (p : ℕ) : Type 0 where
-    pub low : 1 ≤ i
-    pub high : i + 1 ≤ l.variables
-    pub opened : q ≡ opened_by (edition_in l.release l.order)
-    pub there : q.there ≡ true
-    pub start : p ≡ start_of e.tagged l 2 n_variable_types
+  -- the types of all are read, and c is by them
+  pub record Stands : Type 0 where
     pub types : List VarType
     pub got_types : layout_types e o f l ≡ got types
-    pub column : c ≡ by i (got types)
+    pub column : c ≡ record { field = field_by (get_or types (i - 1) byte_type); offset = capped (offset_in e types i); row = capped (width_in e types) }
 
-  module _ (Q : q ≡ opened_by (edition_in l.release l.order)) (c : Column) (C : c ≡ column_by (answer_of f l (ask_column i))) (low : 1 ≤ i) (high : i + 1 ≤ l.variables) where
-    next_in : among (i + 1) l.variables ≡ true
-    next_in = in_among (i + 1) l.variables (omega arith) high
-
-    next_by : q.there ≡ true → (r : Try (List VarType)) → layout_types e o f l ≡ r → column_by (answer_of f l (ask_column (i + 1))) ≡ by (i + 1) r
-    next_by b r m = ap column_by (answer_open f l (ask_column (i + 1)) q Q next_in b) ∙ ap (by (i + 1)) m
-
-    -- a refusal is that of all variables
-    pub refused_next : (c.code ≡ 0 → ⊥) → c ≡ column_by (answer_of f l (ask_column (i + 1)))
-    refused_next z = go (cases f l i 0 q Q c C)
-      where
-        go : Is f l i 0 q Q c C → c ≡ column_by (answer_of f l (ask_column (i + 1)))
-        go (away a k) = absurd (false≢true (sym a ∙ in_among i l.variables low (omega arith)))
-        go (shut a b k) = k ∙ sym (ap column_by (answer_shut f l (ask_column (i + 1)) q Q next_in b))
-        go (lost a b m k) = k ∙ sym (next_by b none m)
-        go (here a b t m k) = absurd (z (ap (λ (x : Column). x.code) k))
-
-    pub stands : c.code ≡ 0 → (p : ℕ) → p ≡ start_of e.tagged l 2 n_variable_types → Stands c p
-    stands h p P = go (cases f l i 0 q Q c C)
-      where
-        go : Is f l i 0 q Q c C → Stands c p
-        go (away a k) = absurd (omega (arith, h, ap (λ (x : Column). x.code) k))
-        go (shut a b k) = absurd (omega (arith, h, ap (λ (x : Column). x.code) k))
-        go (lost a b m k) = absurd (omega (arith, h, ap (λ (x : Column). x.code) k))
-        go (here a b t m k) = record { low = low; high = high; opened = Q; there = b; start = P; types = t; got_types = m; column = k }
-
-module _ {f : List ℕ} {l : Layout} {i : ℕ} {q : Opened} {c : Column} {p : ℕ} (S : Stands f l i q c p) where
-  abbrev E : Edition
-  E = numbers_of q.e
-
-  abbrev O : Order
-  O = order_by q.msf
-
-  types_are : types_in E.tagged O f l.variables p ≡ got S.types
-  types_are = ap (types_in E.tagged O f l.variables) S.start ∙ S.got_types
-
-  -- the next type code is in the file
-  pub code_inside : p + i * code_width E.tagged + code_width E.tagged ≤ length f
-  code_inside =
-      let h = types_inside E.tagged O f l.variables p S.types (omega arith) types_are in
-      omega (arith, h, row_in_lem i l.variables (code_width E.tagged) (omega arith))
-
-  pub next_is : (x : Field) → x ≡ field_at E.tagged O f p i → (b : ℕ) → b ≡ capped (c.offset + c.width)
-      → record { code = 0; kind = x.kind; width = x.width; offset = b; row = c.row } ≡ column_by (answer_of f l (ask_column (i + 1)))
-  next_is x X b B =
-      let t = S.types in
-      let W = edition_widths l.release l.order q S.opened S.there in
-      let w = cell_width E.v_width E.o_width in
-      let y = get_or t (i - 1) byte_type in
-      let n : i + 1 - 1 ≡ i = omega arith in
-      let s : i ≡ suc (i - 1) = omega arith in
-      let L = types_long E.tagged O f l.variables p t types_are in
-      let F : x ≡ field_by (get_or t i byte_type) = X ∙ types_at E.tagged O f l.variables p t types_are i (omega arith) in
-      let A : c.offset ≡ capped (offset_in E t i) = ap (λ (k : Column). k.offset) S.column in
-      let D : c.width ≡ w y = ap (λ (k : Column). k.width) S.column ∙ width_is E.v_width E.o_width (omega (arith, W.eight)) y in
-      let R : c.row ≡ capped (width_in E t) = ap (λ (k : Column). k.row) S.column in
-      let N : row_width w (take i t) ≡ offset_in E t i + w y = ap (λ (m : ℕ). row_width w (take m t)) s ∙ width_next w t (i - 1) (omega arith) in
-      let G : b ≡ capped (row_width w (take i t)) = B ∙ rw (A, D) (sym (capped_next (offset_in E t i) (w y))) ∙ ap capped (sym N) in
-      let C : c ≡ column_by (answer_of f l (ask_column i)) = S.column ∙ sym (ap column_by (answer_open f l (ask_column i) q S.opened (in_among i l.variables S.low (omega arith)) S.there) ∙ ap (by f l i q i) S.got_types) in
-      rw (F, G, R)
-      (sym
-      (next_by f l i q S.opened c C S.low S.high S.there (got t) S.got_types ∙ ap (λ (m : ℕ). column_by (column (get_or t m byte_type) (row_width w (take m t)) (width_in E t))) n))
-
--- ---- for the code
-
-module _ (t : Bool) (o : Order) (f : List ℕ) (p i : ℕ) (c : Column) where
-  pub next_stays : (c.code ≡ 0 → ⊥) → c ≡ next_column t o f p i c
-  unfolding next_column
-  next_stays h = rw (ne_eqb c.code 0 h)
-
-  pub next_goes : c.code ≡ 0 → (x : Field) → x ≡ field_at t o f p i → (b : ℕ) → b ≡ capped (c.offset + c.width)
-      → record { code = 0; kind = x.kind; width = x.width; offset = b; row = c.row } ≡ next_column t o f p i c
-  unfolding next_column
-  next_goes h x X b B = rw (X, B, eq-eqb c.code 0 h)
-
--- r is the column after that of variable i, c: code and row stay
-pub record Next (f : List ℕ) (l : Layout) (i : ℕ) (c r : Column) : Type 0 where
-  pub is : r ≡ column_by (answer_of f l (ask_column (i + 1)))
-  pub code : r.code ≡ c.code
-  pub row : r.row ≡ c.row
-
-module _ (f : List ℕ) (l : Layout) (i : ℕ) (q : Opened) (Q : q ≡ opened_by (edition_in l.release l.order)) (c : Column) (C : c ≡ column_by (answer_of f l (ask_column i))) (low : 1 ≤ i) (high : i + 1 ≤ l.variables)
-    (n : length f ≤ 18446744073709551615) (p : ℕ) (P : p ≡ capped (start_of (numbers_of q.e).tagged l 2 n_variable_types)) where
-  -- in a file whose types are read their place is not capped
-  at_start : c.code ≡ 0 → Stands f l i q c p
-  at_start h =
-      let s = start_of (numbers_of q.e).tagged l 2 n_variable_types in
-      let k = code_inside (stands f l i q Q c C low high h s refl) in
-      stands f l i q Q c C low high h p (P ∙ sym (capped_small s (omega (arith, k, n))))
-
-  pub next_inside : NextInside (numbers_of q.e).tagged f p i c
-  next_inside h = code_inside (at_start h)
-
-  pub next_column_lem : (r : Column) → r ≡ next_column (numbers_of q.e).tagged (order_by q.msf) f p i c → Next f l i c r
-  unfolding next_column
-  next_column_lem r R = go (eqb c.code 0) refl
+  pub stands : Stands
+  stands = go (layout_types e o f l) refl
     where
-      x : Field
-      x = field_at (numbers_of q.e).tagged (order_by q.msf) f p i
+      go : (r : Try (List VarType)) → layout_types e o f l ≡ r → Stands
+      go none m = absurd (false≢true (cc (C ∙ by_types f l q Q i I none m)))
+      go (got t) m = record { types = t; got_types = m; column = cc (C ∙ by_types f l q Q i I (got t) m) }
 
-      go : (b : Bool) → eqb c.code 0 ≡ b → Next f l i c r
-      go true b =
-          let h = eqb-true c.code 0 b in
-          let A : r ≡ column_after x c = R ∙ rw b in
-          record { is = A ∙ next_is (at_start h) x refl (capped (c.offset + c.width)) refl; code = ap (λ (y : Column). y.code) A ∙ sym h; row = ap (λ (y : Column). y.row) A }
-      go false b =
-          let A : r ≡ c = R ∙ rw b in
-          record { is = A ∙ refused_next f l i q Q c C low high (eqb-false c.code 0 b); code = ap (λ (y : Column). y.code) A; row = ap (λ (y : Column). y.row) A }
+  pub types_end : 0 < l.variables → s + l.variables * code_width e.tagged ≤ length f
+  types_end z = types_inside e.tagged o f l.variables s stands.types z stands.got_types
 
--- ---- along a row
+  module _ (n : length f ≤ 18446744073709551615) (p : ℕ) (P : p ≡ capped s) where
+    -- in a file whose types are read their place is not capped
+    pub at_start : 0 < l.variables → p ≡ s
+    at_start z = P ∙ sym (capped_small s (omega (arith, n, types_end z)))
 
--- m variables after variable i, whose column is d, the column is c; code and row are those of d
-pub record Along (f : List ℕ) (l : Layout) (i : ℕ) (d : Column) (m : ℕ) (c : Column) : Type 0 where
-  pub column : i + m ≤ l.variables → c ≡ column_by (answer_of f l (ask_column (i + m)))
-  pub code : c.code ≡ d.code
-  pub row : c.row ≡ d.row
+    -- each type code is in the file
+    pub code_inside : (m : ℕ) → m < l.variables → p + m * code_width e.tagged + code_width e.tagged ≤ length f
+    code_inside m h = omega (arith, types_end (omega arith), at_start (omega arith), row_in_lem m l.variables (code_width e.tagged) h)
 
-pub along_start : (f : List ℕ) (l : Layout) (i : ℕ) (d : Column) → d ≡ column_by (answer_of f l (ask_column i)) → Along f l i d 0 d
-along_start f l i d e = record { column = λ h. e ∙ ap (λ (x : ℕ). column_by (answer_of f l (ask_column x))) (sym (add-zero i)); code = refl; row = refl }
+    -- and says the field
+    pub field_is : (m : ℕ) → m < l.variables → field_at e.tagged o f p m ≡ field_by (get_or stands.types m byte_type)
+    field_is m h = ap (λ (x : ℕ). field_at e.tagged o f x m) (at_start (omega arith)) ∙ types_at e.tagged o f l.variables s stands.types stands.got_types m h
 
-module _ {f : List ℕ} {l : Layout} {i : ℕ} {d : Column} {m : ℕ} {c : Column} (A : Along f l i d m c) where
-  pub along_next : {r : Column} → Next f l (i + m) c r → Along f l i d (m + 1) r
-  along_next n =
-      record {
-        column = λ h. n.is ∙ ap (λ (x : ℕ). column_by (answer_of f l (ask_column x))) (add_assoc i m 1);
-        code = n.code ∙ A.code;
-        row = n.row ∙ A.row;
-      }
-
-  pub along_end : l.variables ≤ i + m → Along f l i d (m + 1) c
-  along_end b = record { column = λ h. absurd (omega (arith, h, b)); code = A.code; row = A.row }
-
-  -- the row is the same for all
-  pub along_row : (j n p : ℕ) {r : Row} → r ≡ row_in f d.code d.row j n p → r ≡ row_in f c.code c.row j n p
-  along_row j n p e = rw (A.code, A.row) e
+    pub column_next : 1 ≤ i → i + 1 ≤ l.variables → Ok (column_after (field_at e.tagged o f p i) c) ≡ column_by (answer_of f l (ask_column (i + 1)))
+    column_next low high =
+        let S = stands in
+        let t = S.types in
+        let W = edition_widths l.release l.order q Q in
+        let w = cell_width e.v_width e.o_width in
+        let y = get_or t (i - 1) byte_type in
+        let n : i + 1 - 1 ≡ i = omega arith in
+        let k : i ≡ suc (i - 1) = omega arith in
+        let L = types_long e.tagged o f l.variables s t S.got_types in
+        let F = field_is i (omega arith) in
+        let A : c.offset ≡ capped (offset_in e t i) = ap (λ (k : Column). k.offset) S.column in
+        let D : c.field.width ≡ w y = ap (λ (k : Column). k.field.width) S.column ∙ width_is e.v_width e.o_width (omega (arith, W.eight)) y in
+        let R : c.row ≡ capped (width_in e t) = ap (λ (k : Column). k.row) S.column in
+        let N : row_width w (take i t) ≡ offset_in e t i + w y = ap (λ (m : ℕ). row_width w (take m t)) k ∙ width_next w t (i - 1) (omega arith) in
+        let G : capped (c.offset + c.field.width) ≡ capped (row_width w (take i t)) = sum_as A D ∙ sym (capped_next (offset_in e t i) (w y)) ∙ ap capped (sym N) in
+        column_as F G R
+        ∙ sym
+        (by_types f l q Q (i + 1) (in_among (i + 1) l.variables (omega arith) high) (got t) S.got_types
+        ∙ ap (λ (m : ℕ). column_by (column (get_or t m byte_type) (row_width w (take m t)) (width_in e t))) n)

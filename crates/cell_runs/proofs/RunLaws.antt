@@ -5,9 +5,9 @@ use native.Mathlib.Nat.{zero-mul}
 use native.Mathlib.Numerals.{add-one}
 use native.Mathlib.Omega.{arith}
 use mathlib.Core.List.{List, ◌++◌}
-use mathlib.Core.Bool.{Bool, true, false, cond, ◌&&◌}
+use mathlib.Core.Bool.{Bool, true, false, cond, false≢true}
 use borrow.Rule.Slice.PartMut.{put_mid}
-use borrow.Author.Tests.{le-leb, lt-leb, leb-true, leb-false, lt-ltb}
+use borrow.Author.Tests.{le-leb, lt-leb, leb-true, leb-false}
 use lib.ListN.{length, take, drop}
 use lib.Dec.{leb}
 use lib.IntN.{pos, negsuc}
@@ -15,7 +15,9 @@ use Rattle.format.specs.Cells.{whole, single, double, letter, between, outside, 
 use Rattle.format.specs.Dta.{Layout}
 use Rattle.text.proofs.Lay.{Laid, laid_none, laid_part, laid_as}
 use Rattle.questions.specs.Ask.{Question, unlabelled, labelled, Answer, refused, count, mark, typed, part, column, labels, cell, plain, long, ask_cell, answer_of, among, in_range}
-use Rattle.coded.specs.declared.Run as Code
+use Rattle.std.specs.Prelude.{Ok, Err}
+use Rattle.refusal.specs.declared.Refusal.{Refusal}
+use Rattle.refusal.specs.declared.Refusal.TheVariants.{NotThere}
 use Rattle.coded.specs.Coded.{numbers_of, told, following, least, run_of, Tells}
 use Rattle.columns.proofs.ColumnLaws.{among_in}
 
@@ -34,14 +36,11 @@ least_both a b = go (leb a b) refl
     go true e = rw e (omega arith, leb-true a b e)
     go false e = rw e (omega (arith, leb-false a b e), omega arith)
 
-pub following_zero : (i k : ℕ) → i ≡ 0 → 0 ≡ following i k
-following_zero i k z = rw z
+pub following_none : (i k : ℕ) → among i k ≡ false → 0 ≡ following i k
+following_none i k h = rw h
 
-pub following_past : (i k : ℕ) → 1 ≤ i → k < i → 0 ≡ following i k
-following_past i k a h = rw (lt-ltb 0 i a, lt-leb i k h)
-
-pub following_some : (i k : ℕ) → 1 ≤ i → i ≤ k → k - i + 1 ≡ following i k
-following_some i k a h = rw (lt-ltb 0 i a, le-leb i k h) (omega arith)
+pub following_some : (i k : ℕ) → among i k ≡ true → k - i + 1 ≡ following i k
+following_some i k h = let b = among_in i k h in rw h (omega (arith, b))
 
 following_in : (i k m : ℕ) → m < following i k → (1 ≤ i) × (i + m ≤ k)
 following_in i k m h = go (among i k) refl
@@ -55,32 +54,31 @@ following_in i k m h = go (among i k) refl
 
 -- ---- the answer
 
-none_or : (t : Bool) (x : ℕ) → cond t x 0 ≤ x
-none_or true x = omega arith
-none_or false x = omega arith
+module _ (l : Layout) (i j n x : ℕ) where
+  pub run_there : in_range l (ask_cell i j) ≡ true → (m : ℕ) → m ≡ least (x / 4) n → Ok m ≡ run_of l i j n x
+  run_there h m M = rw (h, M)
+
+  pub run_none : in_range l (ask_cell i j) ≡ false → Err NotThere ≡ run_of l i j n x
+  run_none h = rw h
+
+-- a run that is there stores as many as there is room for
+pub run_is : (l : Layout) (i j n x r : ℕ) → Ok r ≡ run_of l i j n x → (in_range l (ask_cell i j) ≡ true) × (r ≡ least (x / 4) n)
+run_is l i j n x r e = go (in_range l (ask_cell i j)) refl
+  where
+    go : (b : Bool) → in_range l (ask_cell i j) ≡ b → (in_range l (ask_cell i j) ≡ true) × (r ≡ least (x / 4) n)
+    go true h = let k : Ok r ≡ Ok (least (x / 4) n) = rw h at e in (h, cc k)
+    go false h = let k : Ok r ≡ Err NotThere = rw h at e in absurd (false≢true (cc k))
 
 -- no more answers than there is room for, and none past k
-pub run_few : (l : Layout) (i j a k x : ℕ) (r : Code.Run) → r ≡ run_of l i j (following a k) x → (r.count * 4 ≤ x) × (r.count ≤ following a k)
+pub run_few : (l : Layout) (i j a k x r : ℕ) → Ok r ≡ run_of l i j (following a k) x → (r * 4 ≤ x) × (r ≤ following a k)
 run_few l i j a k x r e =
-    let n = ap (λ (y : Code.Run). y.count) e in
-    let h = none_or (in_range l (ask_cell i j)) (least (x / 4) (following a k)) in
+    let h = run_is l i j (following a k) x r e in
     let b = least_both (x / 4) (following a k) in
-    (omega (arith, n, h, b.0), omega (arith, n, h, b.1))
+    (omega (arith, h.1, b.0), omega (arith, h.1, b.1))
 
 pub following_within : (a k n z : ℕ) → n ≤ following a k → a ≤ z → k < z → a + n ≤ z
 following_within a k zero z h b c = omega arith
 following_within a k (suc n) z h b c = omega (arith, (following_in a k n (omega arith)).1)
-
--- a and b tell whether variable and observation are there
-module _ (l : Layout) (i j n x : ℕ) (a b : Bool) (A : a ≡ among i l.variables) (B : b ≡ among j l.rows) where
-  both : in_range l (ask_cell i j) ≡ (a && b)
-  both = sym (λ z. A z && B z)
-
-  pub run_there : (a && b) ≡ true → (m : ℕ) → m ≡ least (x / 4) n → record { code = 0; count = m } ≡ run_of l i j n x
-  run_there h m M = rw (both ∙ h, M) refl
-
-  pub run_none : (a && b) ≡ false → record { code = 16; count = 0 } ≡ run_of l i j n x
-  run_none h = rw (both ∙ h) refl
 
 -- ---- the loop
 
@@ -133,35 +131,33 @@ module _ {f : List ℕ} {l : Layout} {q : ℕ → Question} {d : List ℕ} {m : 
 
 -- of the r answers of the run from cell i, j on, as many as d has room for and at most those from a up to k, the first m are laid over d
 pub record Run (f : List ℕ) (l : Layout) (i j : ℕ) (q : ℕ → Question) (a k : ℕ) (d : List ℕ) (r m : ℕ) (w : List ℕ) : Type 0 where
-  pub many : r ≡ (run_of l i j (following a k) (length d)).count
+  pub many : Ok r ≡ run_of l i j (following a k) (length d)
   pub upto : m ≤ r
   pub filled : Filled f l q d m w
 
-module _ (f : List ℕ) (l : Layout) (i j : ℕ) (q : ℕ → Question) (a k : ℕ) (d : List ℕ) (r : Code.Run) where
-  pub run_start : r ≡ run_of l i j (following a k) (length d) → Run f l i j q a k d r.count 0 d
-  run_start e = record { many = ap (λ (x : Code.Run). x.count) e; upto = omega arith; filled = filled_none f l q d }
+module _ (f : List ℕ) (l : Layout) (i j : ℕ) (q : ℕ → Question) (a k : ℕ) (d : List ℕ) where
+  pub run_start : (r : ℕ) → Ok r ≡ run_of l i j (following a k) (length d) → Run f l i j q a k d r 0 d
+  run_start r e = record { many = e; upto = omega arith; filled = filled_none f l q d }
+
+  -- a run that is refused stores nothing
+  pub run_out : (x : Refusal) → Err x ≡ run_of l i j (following a k) (length d) → Tells f l i j q (following a k) d d (Err x)
+  run_out x e = record { answer = e; out = filled_all (filled_none f l q d) 0 refl }
 
 module _ {f : List ℕ} {l : Layout} {i j : ℕ} {q : ℕ → Question} {a k : ℕ} {d : List ℕ} {r m : ℕ} {w : List ℕ} (R : Run f l i j q a k d r m w) where
-  pub run_end : r ≤ m → (x : Code.Run) → x ≡ run_of l i j (following a k) (length d) → Tells f l i j q (following a k) d w x
-  run_end h x X =
-      let e : m ≡ r = omega arith in
-      let c : m ≡ x.count = e ∙ R.many ∙ sym (ap (λ (y : Code.Run). y.count) X) in
-      record { answer = X; out = filled_all R.filled x.count c }
+  pub run_end : r ≤ m → Tells f l i j q (following a k) d w (Ok r)
+  run_end h = record { answer = R.many; out = filled_all R.filled r (omega arith) }
 
   pub run_long : length w ≡ length d
   run_long = filled_long R.filled
 
-  few : r ≤ least (length d / 4) (following a k)
-  few = omega (arith, R.many, none_or (in_range l (ask_cell i j)) (least (length d / 4) (following a k)))
-
   module _ (h : m < r) where
     -- the next one's number
     pub run_in : (1 ≤ a) × (a + m ≤ k)
-    run_in = following_in a k m (omega (arith, h, few, (least_both (length d / 4) (following a k)).1))
+    run_in = following_in a k m (omega (arith, h, run_few l i j a k (length d) r R.many))
 
     -- there is room for it
     pub run_room : m * 4 + 4 ≤ length w
-    run_room = omega (arith, h, few, run_long, (least_both (length d / 4) (following a k)).0)
+    run_room = omega (arith, h, run_long, run_few l i j a k (length d) r R.many)
 
     -- it is laid after the others
     pub run_on : (x : Answer) (p : List ℕ) → x ≡ answer_of f l (q m) → p ≡ numbers_of x ++ drop 4 (take (length w - m * 4) (drop (m * 4) w))

@@ -3,49 +3,93 @@
 
 #![tactic(auto)]
 
-ghost use Rattle.std.specs.Prelude.{◌≡◌, ◌++◌, ℕ, ◌+◌, ◌/◌, ◌≤◌, ◌<◌, length, drop};
+ghost use Rattle.std.specs.Prelude.{◌≡◌, ◌++◌, ℕ, ◌+◌, ◌≤◌, ◌<◌, length, drop};
 ghost use Rattle.format.specs.Number.{order_by};
-ghost use Rattle.questions.specs.Ask.{place, ask_cell};
+ghost use Rattle.format.specs.Edition.{n_variable_types};
+ghost use Rattle.questions.specs.Ask.{place, start_of, answer_of, ask_cell};
 ghost use Rattle.checking.specs.Checks.{layout_by};
 ghost use Rattle.columns.specs.Columns.{capped};
+ghost use Rattle.cells.specs.Cells.{said_by};
+ghost use Rattle.data.specs.Places.{field_at};
 ghost use Rattle.asking.specs.Asking.{answer_by, by_cell};
 ghost use Rattle.coded.specs.Coded as Coded;
 ghost use Rattle.coded.specs.Coded.{numbers_of, Tells};
-ghost use Rattle.cell_runs.specs.Next.{next_column, NextInside};
+ghost use Rattle.cell_runs.specs.Next.{column_after, NextInside};
+ghost use Rattle.cell_runs.specs.Held.{held_by, held};
 
-use cells::Said;
+use cell::Cell;
 use checking::Layout;
-use coded::Run;
 use columns::Column;
+use reading::Opened;
+use refusal::Refusal;
 
-// A sum, or the greatest number where it is greater.
-pub fn add_capped(a: u64, b: u64) -> u64
-    ensures { result ≡ capped (a + b) }
+// Where a variable's cells stand, and the edition and byte order they are read with.
+#[derive(Clone, Copy)]
+pub struct Held {
+    pub o: Opened,
+    pub c: Column,
+}
+
+// The column `c`, with the edition and byte order of the layout.
+pub fn held_by(l: Layout, c: Result<Column, Refusal>) -> Result<Held, Refusal>
+    ensures { result ≡ held_by (layout_by l) c }
 {
-    if a <= 18446744073709551615 - b {
-        a + b
-    } else {
-        18446744073709551615
+    let o = answers::opened(true, l.edition, l.order)?;
+    let c = c?;
+    Ok(Held { o, c })
+}
+
+// What cell `i`, `j` says, where `h` is the column of variable `i`.
+pub fn cell_in(
+    f: &[u8],
+    l: Layout,
+    h: Result<Held, Refusal>,
+    i: u64,
+    j: u64,
+) -> Result<Cell, Refusal>
+    requires { h ≡ held f.now (layout_by l) i }
+    ensures { result ≡ said_by (answer_of f.now (layout_by l) (ask_cell i j)) }
+{
+    if !cells::is_cell(l, i, j) {
+        return Err(Refusal::NotThere);
     }
+    let h = h?;
+    let gap = reading::tag_size(h.o.e.tagged, 6);
+    let row = cells::row_in(f, h.c.row, j, l.n, l.places[9], gap)?;
+    cells::cell_in_row(f, row, h.c, h.o.e.v_width, h.o.e.o_width, h.o.msf)
+}
+
+// The place of the type codes.
+pub fn types_of(l: Layout, tagged: bool) -> u64
+    ensures { result ≡ capped (start_of tagged (layout_by l) 2 n_variable_types) }
+{
+    place_of(l, 2).saturating_add(reading::tag_size(tagged, 16))
 }
 
 // Where the cells of variable `i + 1` stand, where `c` is where those of variable `i` do, and `types` is the type codes' place.
 pub fn column_after(f: &[u8], types: u64, c: Column, i: u64, tagged: bool, msf: bool) -> Column
-    requires { NextInside tagged f.now types i c }
-    ensures { result ≡ next_column tagged (order_by msf) f.now types i c }
+    requires { NextInside tagged f.now types i }
+    ensures { result ≡ column_after (field_at tagged (order_by msf) f.now types i) c }
 {
-    if c.code != 0 {
-        return c;
-    }
-    let x = data::field_at(f, types as usize, i as usize, tagged, msf);
-    let kind = x.kind;
     Column {
-        code: 0,
-        kind,
-        width: x.width,
-        offset: add_capped(c.offset, c.width as u64),
+        field: data::field_at(f, types as usize, i as usize, tagged, msf),
+        offset: c.offset.saturating_add(c.field.width as u64),
         row: c.row,
     }
+}
+
+// The column of variable `i + 1`, where there is one and `h` is that of variable `i`; a refusal stays.
+fn held_after(f: &[u8], l: Layout, h: Result<Held, Refusal>, i: u64) -> Result<Held, Refusal>
+    requires { (h ≡ held f.now (layout_by l) i) × (1 ≤ i) }
+    ensures { i < l.k → result ≡ held f.now (layout_by l) (i + 1) }
+{
+    if l.k <= i {
+        return h;
+    }
+    let h = h?;
+    let types = types_of(l, h.o.e.tagged);
+    let c = column_after(f, types, h.c, i, h.o.e.tagged, h.o.msf);
+    Ok(Held { o: h.o, c })
 }
 
 // Position `k` of the layout.
@@ -56,7 +100,7 @@ pub fn place_of(l: Layout, k: usize) -> u64
     l.places[k]
 }
 
-// The lesser.
+// The lesser, of numbers of two types: `min` takes one.
 pub fn least(a: usize, b: u64) -> usize
     ensures { result ≡ Coded.least a b }
 {
@@ -67,10 +111,7 @@ pub fn least(a: usize, b: u64) -> usize
 pub fn following(i: u64, k: u64) -> u64
     ensures { result ≡ Coded.following i k }
 {
-    if i == 0 {
-        return 0;
-    }
-    if k < i {
+    if !reading::is_among(i, k) {
         return 0;
     }
     k - i + 1
@@ -78,87 +119,54 @@ pub fn following(i: u64, k: u64) -> u64
 
 // The answer of a run that begins with the cell of variable `i` and observation `j`: 16 where there is no such cell; else how many answers of four
 // numbers `room` numbers can hold, at most those from `first` up to `last`.
-pub fn run_of(l: Layout, i: u64, j: u64, first: u64, last: u64, room: usize) -> Run
+pub fn run_of(
+    l: Layout,
+    i: u64,
+    j: u64,
+    first: u64,
+    last: u64,
+    room: usize,
+) -> Result<usize, Refusal>
     ensures { result ≡ Coded.run_of (layout_by l) i j (Coded.following first last) room }
 {
-    if reading::is_among(i, l.k) & reading::is_among(j, l.n) {
-        return Run {
-            code: 0,
-            count: least(room / 4, following(first, last)),
-        };
+    if cells::is_cell(l, i, j) {
+        return Ok(least(room / 4, following(first, last)));
     }
-    Run { code: 16, count: 0 }
+    Err(Refusal::NotThere)
 }
 
 // Stores what a cell says at the start of `out`.
-fn put_said(out: &mut [u64], x: Said)
+fn put_said(out: &mut [u64], said: Result<Cell, Refusal>)
     requires { 4 ≤ length out.old }
-    ensures { out.new ≡ numbers_of (answer_by (by_cell x)) ++ drop 4 out.old }
+    ensures { out.new ≡ numbers_of (answer_by (by_cell said)) ++ drop 4 out.old }
 {
-    coded::put_four(out, coded::numbers_of(asking::by_cell(x)));
+    coded::put_four(out, coded::numbers_of(asking::by_cell(said)));
 }
 
 // The cells of variable `i` from observation `j` on, four numbers each, as many as `out` has room for.
-pub fn cells_down(f: &[u8], l: Layout, i: u64, j: u64, out: &mut [u64]) -> Run
+pub fn cells_down(f: &[u8], l: Layout, i: u64, j: u64, out: &mut [u64]) -> Result<usize, Refusal>
     ensures { Tells f.now (layout_by l) i j (λ (m : ℕ). ask_cell i (j + m)) (Coded.following j l.n) out.old out.new result }
 {
-    let r = run_of(l, i, j, j, l.n, out.len());
-    let n = r.count;
-    let o = reading::edition_in(l.edition, l.order);
-    let start = place_of(l, 9);
-    let gap = reading::tag_size(o.e.tagged, 6);
-    let c = columns::column_of(f, l, i);
-    let kind = c.kind;
-    let mut m: usize = 0;
-    while m < n {
-        let row = cells::row_in(f, c.code, c.row, j + m as u64, l.n, start, gap);
-        let x = cells::cell_in_row(
-            f,
-            row,
-            kind,
-            c.width,
-            c.offset,
-            o.e.v_width,
-            o.e.o_width,
-            o.msf,
-        );
+    let n = run_of(l, i, j, j, l.n, out.len())?;
+    let h = held_by(l, columns::column_of(f, l, i));
+    for m in 0..n {
+        let x = cell_in(f, l, h, i, j + m as u64);
         put_said(&mut out[m * 4..], x);
-        m += 1;
     }
-    r
+    Ok(n)
 }
 
 // The cells of observation `j` from variable `i` on, four numbers each, as many as `out` has room for.
-pub fn cells_along(f: &[u8], l: Layout, i: u64, j: u64, out: &mut [u64]) -> Run
+pub fn cells_along(f: &[u8], l: Layout, i: u64, j: u64, out: &mut [u64]) -> Result<usize, Refusal>
     ensures { Tells f.now (layout_by l) i j (λ (m : ℕ). ask_cell (i + m) j) (Coded.following i l.k) out.old out.new result }
 {
-    let r = run_of(l, i, j, i, l.k, out.len());
-    let n = r.count;
-    let o = reading::edition_in(l.edition, l.order);
-    let types = add_capped(place_of(l, 2), reading::tag_size(o.e.tagged, 16));
-    let start = place_of(l, 9);
-    let gap = reading::tag_size(o.e.tagged, 6);
-    let mut c = columns::column_of(f, l, i);
-    let row = cells::row_in(f, c.code, c.row, j, l.n, start, gap);
-    let mut m: usize = 0;
-    while m < n {
+    let n = run_of(l, i, j, i, l.k, out.len())?;
+    let mut h = held_by(l, columns::column_of(f, l, i));
+    for m in 0..n {
         let v = i + m as u64;
-        let kind = c.kind;
-        let x = cells::cell_in_row(
-            f,
-            row,
-            kind,
-            c.width,
-            c.offset,
-            o.e.v_width,
-            o.e.o_width,
-            o.msf,
-        );
+        let x = cell_in(f, l, h, v, j);
         put_said(&mut out[m * 4..], x);
-        m += 1;
-        if v < l.k {
-            c = column_after(f, types, c, v, o.e.tagged, o.msf);
-        }
+        h = held_after(f, l, h, v);
     }
-    r
+    Ok(n)
 }

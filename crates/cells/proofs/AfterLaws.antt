@@ -13,55 +13,61 @@ use Rattle.questions.specs.Ask.{Question, Answer, refused, cell, or_refused, in_
 use Rattle.reading.specs.declared.Opened.{Opened}
 use Rattle.reading.specs.Reads.{opened_by, edition_in}
 use Rattle.reading.proofs.AnswerLaws.{answer_out, answer_shut, answer_open}
-use Rattle.cell.specs.Cells.{says}
-use Rattle.cells.specs.declared.Said.{Said}
+use Rattle.cell.specs.declared.Cell.{Cell}
+use Rattle.cell.specs.Cells.{says, cell_by}
+use Rattle.std.specs.Prelude.{Option, Some, None, Result, Ok, Err}
+use Rattle.refusal.specs.declared.Refusal.{Refusal}
+use Rattle.refusal.specs.Refusals.{refusal_by}
 use Rattle.cells.specs.Cells.{said_by}
 use Rattle.cells.proofs.CellLaws.{says_back}
 
-module _ (f : List ℕ) (l : Layout) (i j : ℕ) (q : Opened) (Q : q ≡ opened_by (edition_in l.release l.order))
-    (x : Question) (k : Edition → Order → Says → Try Answer)
+module _ (f : List ℕ) (l : Layout) (i j : ℕ) (x : Question) (k : Edition → Order → Says → Try Answer)
     (same : in_range l x ≡ in_range l (ask_cell i j))
     (then : (e : Edition) (o : Order) → answer_in e o f l x ≡ bind (cell_in e o f l i j) (k e o)) where
-  abbrev e : Edition
-  e = numbers_of q.e
-
-  abbrev o : Order
-  o = order_by q.msf
-
   -- what the cell answers decides
   pub data Is : Type 0 where
-    away : (c : ℕ) → (c ≡ 0 → ⊥) → answer_of f l (ask_cell i j) ≡ refused c → answer_of f l x ≡ refused c → Is
-    here : (s : Says) → q.there ≡ true → answer_of f l (ask_cell i j) ≡ cell s → answer_of f l x ≡ or_refused (k e o s) → Is
+    away : (c : ℕ) → answer_of f l (ask_cell i j) ≡ refused c → answer_of f l x ≡ refused c → Is
+    here : (s : Says) (q : Opened) → Some q ≡ opened_by (edition_in l.release l.order) → answer_of f l (ask_cell i j) ≡ cell s
+        → answer_of f l x ≡ or_refused (k (numbers_of q.e) (order_by q.msf) s) → Is
 
   pub cases : Is
-  cases = go (in_range l (ask_cell i j)) refl q.there refl (cell_in e o f l i j) refl
+  cases = go (in_range l (ask_cell i j)) refl (opened_by (edition_in l.release l.order)) refl
     where
-      go : (a : Bool) → in_range l (ask_cell i j) ≡ a → (b : Bool) → q.there ≡ b → (r : Try Says) → cell_in e o f l i j ≡ r → Is
-      go false a b t r m = away 16 (λ z. absurd (false≢true (cc z))) (answer_out f l (ask_cell i j) a) (answer_out f l x (same ∙ a))
-      go true a false t r m = away 17 (λ z. absurd (false≢true (cc z))) (answer_shut f l (ask_cell i j) q Q a t) (answer_shut f l x q Q (same ∙ a) t)
-      go true a true t none m =
-          away 17 (λ z. absurd (false≢true (cc z)))
-          (answer_open f l (ask_cell i j) q Q a t ∙ ap (λ (r : Try Says). or_refused (bind r λ s. got (cell s))) m)
-          (answer_open f l x q Q (same ∙ a) t ∙ ap or_refused (then e o) ∙ ap (λ (r : Try Says). or_refused (bind r (k e o))) m)
-      go true a true t (got s) m =
-          here s t
-          (answer_open f l (ask_cell i j) q Q a t ∙ ap (λ (r : Try Says). or_refused (bind r λ s. got (cell s))) m)
-          (answer_open f l x q Q (same ∙ a) t ∙ ap or_refused (then e o) ∙ ap (λ (r : Try Says). or_refused (bind r (k e o))) m)
+      go : (a : Bool) → in_range l (ask_cell i j) ≡ a → (b : Option Opened) → b ≡ opened_by (edition_in l.release l.order) → Is
+      go false a b t = away 16 (answer_out f l (ask_cell i j) a) (answer_out f l x (same ∙ a))
+      go true a None t = away 17 (answer_shut f l (ask_cell i j) a t) (answer_shut f l x (same ∙ a) t)
+      go true a (Some q) t = on (cell_in (numbers_of q.e) (order_by q.msf) f l i j) refl
+        where
+          on : (r : Try Says) → cell_in (numbers_of q.e) (order_by q.msf) f l i j ≡ r → Is
+          on none m =
+              away 17
+              (answer_open f l (ask_cell i j) a q t ∙ ap (λ (r : Try Says). or_refused (bind r λ s. got (cell s))) m)
+              (answer_open f l x (same ∙ a) q t ∙ ap or_refused (then (numbers_of q.e) (order_by q.msf)) ∙ ap (λ (r : Try Says). or_refused (bind r (k (numbers_of q.e) (order_by q.msf)))) m)
+          on (got s) m =
+              here s q t
+              (answer_open f l (ask_cell i j) a q t ∙ ap (λ (r : Try Says). or_refused (bind r λ s. got (cell s))) m)
+              (answer_open f l x (same ∙ a) q t ∙ ap or_refused (then (numbers_of q.e) (order_by q.msf)) ∙ ap (λ (r : Try Says). or_refused (bind r (k (numbers_of q.e) (order_by q.msf)))) m)
 
   -- .. as the code has it
-  module _ {r : Said} (R : r ≡ said_by (answer_of f l (ask_cell i j))) where
-    pub after_refused : (r.code ≡ 0 → ⊥) → refused r.code ≡ answer_of f l x
-    after_refused z = go cases
-      where
-        go : Is → refused r.code ≡ answer_of f l x
-        go (away d n a b) = ap (λ (y : Said). refused y.code) (R ∙ ap said_by a) ∙ sym b
-        go (here s t a b) = absurd (z (ap (λ (y : Said). y.code) (R ∙ ap said_by a)))
+  pub after_refused : {R : Type 0} (by : Answer → Result R Refusal) → ((c : ℕ) → by (refused c) ≡ Err (refusal_by c))
+      → (d : Refusal) → Err d ≡ said_by (answer_of f l (ask_cell i j)) → Err d ≡ by (answer_of f l x)
+  after_refused by b d D = go cases
+    where
+      go : Is → Err d ≡ by (answer_of f l x)
+      go (away c m n) = let z : d ≡ refusal_by c = cc (D ∙ ap said_by m) in ap Err z ∙ sym (b c) ∙ ap by (sym n)
+      go (here s q t m n) = absurd (false≢true (cc (D ∙ ap said_by m)))
 
-    pub after_said : r.code ≡ 0 → (q.there ≡ true) × (answer_of f l x ≡ or_refused (k e o (says r.cell)))
-    after_said z = go cases
-      where
-        go : Is → (q.there ≡ true) × (answer_of f l x ≡ or_refused (k e o (says r.cell)))
-        go (away d n a b) = absurd (n (sym (ap (λ (y : Said). y.code) (R ∙ ap said_by a)) ∙ z))
-        go (here u t a b) =
-            let v : says r.cell ≡ u = ap (λ (y : Said). says y.cell) (R ∙ ap said_by a) ∙ says_back u in
-            (t, b ∙ ap (λ (y : Says). or_refused (k e o y)) (sym v))
+  pub record After (c : Cell) : Type 0 where
+    pub opened : Opened
+    pub read : Some opened ≡ opened_by (edition_in l.release l.order)
+    pub is : answer_of f l x ≡ or_refused (k (numbers_of opened.e) (order_by opened.msf) (says c))
+
+  pub after_said : (c : Cell) → Ok c ≡ said_by (answer_of f l (ask_cell i j)) → After c
+  after_said c C = go cases
+    where
+      go : Is → After c
+      go (away d m n) = absurd (false≢true (cc (C ∙ ap said_by m)))
+      go (here s q t m n) =
+          let v : c ≡ cell_by s = cc (C ∙ ap said_by m) in
+          let u : says c ≡ s = ap says v ∙ says_back s in
+          record { opened = q; read = t; is = n ∙ ap (λ (y : Says). or_refused (k (numbers_of q.e) (order_by q.msf) y)) (sym u) }

@@ -1,24 +1,23 @@
 -- What a cell says, over any layout.
 use mathlib.Core.Path.{◌≡◌, refl, sym, ap, ◌∙◌, subst}
 use Prim.Native.Nat.{ℕ, zero, suc, ◌+◌, ◌-◌, ◌*◌, ◌≤◌, ◌<◌}
-use native.Mathlib.Nat.{mul-le-mul_left, suc-mul, zero-mul, add-zero}
+use native.Mathlib.Nat.{mul-le-mul_left, suc-mul, zero-mul}
 use native.Mathlib.Omega.{arith}
-use mathlib.Core.List.{List, [], ◌∷◌}
-use mathlib.Core.Bool.{Bool, true, false, cond, ◌&&◌, and-false, false≢true}
-use lib.ListN.{length, get_or, take}
-use lib.Dec.{eqb, leb, ltb}
-use borrow.Author.Tests.{le-leb, lt-leb, leb-true, leb-false, lt-ltb, le-ltb, ltb-true, ltb-false}
-use Rattle.format.specs.Number.{Order, order_by, num}
-use Rattle.format.specs.Grammar.{row_width, text_at}
+use mathlib.Core.List.{List}
+use mathlib.Core.Bool.{Bool, true, false, false≢true}
+use lib.ListN.{length, get_or}
+use lib.Dec.{leb, ltb}
+use borrow.Author.Tests.{leb-true, leb-false}
+use Rattle.format.specs.Number.{Order, order_by}
+use Rattle.format.specs.Grammar.{text_at}
 use Rattle.format.specs.Edition.{Edition, Release, edition, code_width, text_max, n_variable_types, n_data}
-use Rattle.format.specs.Variables.{VarType, text_type, strl_type, byte_type, int_type, long_type, float_type, double_type, type_by, has_type}
+use Rattle.format.specs.Variables.{VarType, text_type, strl_type, byte_type, int_type, long_type, float_type, double_type, has_type}
 use Rattle.format.specs.Data.{cell_width}
 use Rattle.format.specs.Cells.{Says, whole, single, double, letter, between, outside, words, reference, says_at}
 use Rattle.format.specs.Dta.{Layout}
 use Rattle.format.proofs.Good.{and_left, and_right}
 use Rattle.codes.specs.declared.Kind.{Kind}
 use Rattle.codes.specs.declared.Kind.TheVariants.{Text, StrL, Byte, Int, Long, Float, Double, Unknown}
-use Rattle.codes.specs.declared.Field.{Field}
 use Rattle.codes.specs.Fields.{field_by, known, type_of}
 use Rattle.codes.proofs.Laws.{type_back, type_known}
 use Rattle.cell.specs.declared.Cell.{Cell}
@@ -26,23 +25,26 @@ use Rattle.cell.specs.declared.Cell.TheVariants as Variants
 use Rattle.cell.specs.Cells.{says, cell_by, Lettered, IsCell}
 use Rattle.cell.proofs.CellLaws.{lettered_at}
 use Rattle.editions.specs.Editions.{numbers_of}
-use Rattle.questions.specs.Readings.{Try, none, got, bind, test, room, text_needs, text_in}
-use Rattle.questions.specs.Ask.{Question, Answer, refused, column, cell, or_refused, release_in, order_in, in_range, among, type_in, types_in, layout_types, column_in, cell_needs, cell_at, cell_in, cell_place, offset_in, width_in, start_of, answer_of, answer_in, ask_column, ask_cell}
-use Rattle.reading.specs.declared.Read.{Read}
+use Rattle.questions.specs.Readings.{Try, none, got, bind, test, text_needs}
+use Rattle.questions.specs.Ask.{Answer, refused, column, cell, or_refused, release_in, order_in, in_range, among, type_in, types_in, layout_types, cell_needs, cell_at, cell_in, cell_place, offset_in, width_in, start_of, answer_of, ask_column, ask_cell}
 use Rattle.reading.specs.declared.Opened.{Opened}
-use Rattle.reading.specs.Reads.{read_by, length_in, opened_by, edition_in}
+use Rattle.reading.specs.Reads.{length_in, edition_in}
 use Rattle.reading.proofs.ReadLaws.{room_got, room_none}
-use Rattle.reading.proofs.AnswerLaws.{answer_out, answer_shut, answer_open, edition_got}
+use Rattle.reading.proofs.AnswerLaws.{answer_open}
 use Rattle.columns.specs.declared.Column.{Column}
-use Rattle.cells.specs.declared.Said.{Said}
-use Rattle.columns.specs.Columns.{capped, no_column, column_by}
-use Rattle.cells.specs.Cells.{no_said, said_by, is_text, cell_said}
+use Rattle.columns.specs.Columns.{capped, column_by}
+use Rattle.cells.specs.Cells.{said_by, is_text, cell_said}
+use Rattle.answers.specs.Answers.{opened_if}
+use Rattle.answers.proofs.TellLaws.{is_open, tells_open}
+use Rattle.std.specs.Prelude.{Result, Ok, Err, IfOk}
+use Rattle.refusal.specs.declared.Refusal.{Refusal}
+use Rattle.refusal.specs.declared.Refusal.TheVariants.{NotReadable}
 use Rattle.columns.proofs.ColumnLaws.{capped_le, capped_is, among_in, consed, type_is}
 
 -- ---- answers
 
-pub said_none : (a : Answer) (c : ℕ) (r : Said) → r ≡ no_said c → refused c ≡ a → r ≡ said_by a
-said_none a c r e h = e ∙ ap said_by h
+pub said_none : (a : Answer) → refused 17 ≡ a → Err NotReadable ≡ said_by a
+said_none a h = ap said_by h
 
 -- a cell is what it says
 pub cell_back : (c : Cell) → cell_by (says c) ≡ c
@@ -65,35 +67,38 @@ says_back outside = refl
 says_back (words p n) = refl
 says_back (reference v o) = refl
 
-pub said_cell : (a : Answer) (c : Cell) → cell (says c) ≡ a → record { code = 0; cell = c } ≡ said_by a
-said_cell a c h = ap (λ (y : Cell). record { code = 0; cell = y }) (sym (cell_back c)) ∙ ap said_by h
+pub said_cell : (a : Answer) (c : Cell) → cell (says c) ≡ a → Ok c ≡ said_by a
+said_cell a c h = ap Ok (sym (cell_back c)) ∙ ap said_by h
 
 -- a letter that is read is at most 26
-asked_lettered : (f : List ℕ) (l : Layout) (i j : ℕ) → Lettered (says (said_by (answer_of f l (ask_cell i j))).cell)
+abbrev pub LetteredIn : Result Cell Refusal → Type 0
+LetteredIn r = IfOk r (λ c. Lettered (says c))
+
+asked_lettered : (f : List ℕ) (l : Layout) (i j : ℕ) → LetteredIn (said_by (answer_of f l (ask_cell i j)))
 unfolding answer_of
 asked_lettered f l i j = go (in_range l (ask_cell i j)) refl (release_in l.release) refl (order_in l.order) refl
   where
     go : (b : Bool) → in_range l (ask_cell i j) ≡ b → (r : Try Release) → release_in l.release ≡ r → (o : Try Order) → order_in l.order ≡ o
-        → Lettered (says (said_by (answer_of f l (ask_cell i j))).cell)
+        → LetteredIn (said_by (answer_of f l (ask_cell i j)))
     go false a r b o c = rw a tt
     go true a none b o c = rw (a, b) tt
     go true a (got r) b none c = rw (a, b, c) tt
     go true a (got r) b (got o) c = rw (a, b, c) (types (layout_types (edition r) o f l))
       where
-        at : (x : VarType) (p : ℕ) (b : Bool) → Lettered (says (said_by (or_refused (bind (bind (test b) λ u. got (says_at o (edition r).v_width (edition r).o_width x f p)) λ s. got (cell s)))).cell)
+        at : (x : VarType) (p : ℕ) (b : Bool) → LetteredIn (said_by (or_refused (bind (bind (test b) λ u. got (says_at o (edition r).v_width (edition r).o_width x f p)) λ s. got (cell s))))
         at x p false = tt
         at x p true = subst Lettered (sym (says_back (says_at o (edition r).v_width (edition r).o_width x f p))) (lettered_at o (edition r).v_width (edition r).o_width x f p)
 
         types : (t : Try (List VarType))
-            → Lettered (says (said_by (or_refused (bind (bind t λ t. cell_at (edition r) o f (get_or t (i - 1) byte_type) (cell_place (edition r) t (start_of (edition r).tagged l 9 n_data) i j)) λ s. got (cell s)))).cell)
+            → LetteredIn (said_by (or_refused (bind (bind t λ t. cell_at (edition r) o f (get_or t (i - 1) byte_type) (cell_place (edition r) t (start_of (edition r).tagged l 9 n_data) i j)) λ s. got (cell s))))
         types none = tt
         types (got t) =
             let x = get_or t (i - 1) byte_type in
             let p = cell_place (edition r) t (start_of (edition r).tagged l 9 n_data) i j in
             at x p (leb (p + cell_needs (edition r) x f p) (length f))
 
-pub said_lettered : (f : List ℕ) (l : Layout) (i j : ℕ) {r : Said} → r ≡ said_by (answer_of f l (ask_cell i j)) → Lettered (says r.cell)
-said_lettered f l i j e = subst (λ (y : Said). Lettered (says y.cell)) (sym e) (asked_lettered f l i j)
+pub said_lettered : (f : List ℕ) (l : Layout) (i j : ℕ) {r : Result Cell Refusal} → r ≡ said_by (answer_of f l (ask_cell i j)) → LetteredIn r
+said_lettered f l i j e = subst LetteredIn (sym e) (asked_lettered f l i j)
 
 -- ---- a cell at a place
 
@@ -135,7 +140,7 @@ module _ (e : Edition) (o : Order) (f : List ℕ) where
     cell_out b = let g : length f < p + cell_needs e (type_of k w) f p = omega (arith, b, W, needs_width k w p h n) in rw (room_none f p (cell_needs e (type_of k w) f p) g)
 
     pub cell_got : p + w ≤ length f → (c : Cell) → IsCell (says_at o e.v_width e.o_width (type_of k w) f p) c
-        → record { code = 0; cell = c } ≡ said_by (cell_said e o f (type_of k w) p)
+        → Ok c ≡ said_by (cell_said e o f (type_of k w) p)
     unfolding cell_said
     cell_got b c i =
         let g : p + cell_needs e (type_of k w) f p ≤ length f = omega (arith, b, W, needs_width k w p h n) in
@@ -179,92 +184,71 @@ types_has t o f (suc n) p l e (suc m) h =
 
 -- ---- a column and a row
 
-module _ (f : List ℕ) (l : Layout) (i j : ℕ) (q : Opened) (Q : q ≡ opened_by (edition_in l.release l.order)) (c : Column) (C : c ≡ column_by (answer_of f l (ask_column i))) where
+module _ (f : List ℕ) (l : Layout) (i j : ℕ) (q : Opened) (R : Ok q ≡ opened_if (in_range l (ask_cell i j)) (edition_in l.release l.order)) where
   abbrev e : Edition
   e = numbers_of q.e
 
   abbrev o : Order
   o = order_by q.msf
 
+  abbrev asked : Result Cell Refusal
+  asked = said_by (answer_of f l (ask_cell i j))
+
+  pub among_both : (among i l.variables ≡ true) × (among j l.rows ≡ true)
+  among_both = go (in_range l (ask_cell i j)) refl R
+    where
+      go : (a : Bool) → in_range l (ask_cell i j) ≡ a → Ok q ≡ opened_if a (edition_in l.release l.order) → (among i l.variables ≡ true) × (among j l.rows ≡ true)
+      go true h k = (and_left (among i l.variables) (among j l.rows) h, and_right (among i l.variables) (among j l.rows) h)
+      go false h k = absurd (false≢true (cc k))
+
+  -- what the cell's column answers
   abbrev said : List VarType → Answer
   said t = column (get_or t (i - 1) byte_type) (offset_in e t i) (width_in e t)
 
-  -- what c is
-  pub data Is : Type 0 where
-    away : among i l.variables ≡ false → c ≡ no_column 16 → Is
-    shut : among i l.variables ≡ true → q.there ≡ false → c ≡ no_column 17 → Is
-    lost : among i l.variables ≡ true → q.there ≡ true → layout_types e o f l ≡ none → c ≡ no_column 17 → Is
-    here : among i l.variables ≡ true → q.there ≡ true → (t : List VarType) → layout_types e o f l ≡ got t → c ≡ column_by (said t) → Is
+  column_is : (r : Try (List VarType)) → layout_types e o f l ≡ r → column_by (answer_of f l (ask_column i)) ≡ column_by (or_refused (bind r λ t. got (said t)))
+  column_is r h =
+      ap column_by (answer_open f l (ask_column i) among_both.0 q (is_open f l (ask_cell i j) q R))
+      ∙ ap (λ (r : Try (List VarType)). column_by (or_refused (bind r λ t. got (said t)))) h
 
-  pub cases : Is
-  cases = go (among i l.variables) refl q.there refl (layout_types e o f l) refl
+  pub tells : {x : Result Cell Refusal} → (r : Try (List VarType)) → layout_types e o f l ≡ r
+      → x ≡ said_by (or_refused (bind (bind r λ t. cell_at e o f (get_or t (i - 1) byte_type) (cell_place e t (start_of e.tagged l 9 n_data) i j)) λ s. got (cell s))) → x ≡ asked
+  tells {x} r h k =
+      tells_open f l (ask_cell i j) q R said_by (bind (cell_in e o f l i j) λ s. got (cell s)) refl
+      (k ∙ ap (λ (r : Try (List VarType)). said_by (or_refused (bind (bind r λ t. cell_at e o f (get_or t (i - 1) byte_type) (cell_place e t (start_of e.tagged l 9 n_data) i j)) λ s. got (cell s)))) (sym h))
+
+  -- a column that is refused
+  pub cell_unread : (d : Refusal) → Err d ≡ column_by (answer_of f l (ask_column i)) → Err d ≡ asked
+  cell_unread d D = go (layout_types e o f l) refl
     where
-      go : (a : Bool) → among i l.variables ≡ a → (b : Bool) → q.there ≡ b → (r : Try (List VarType)) → layout_types e o f l ≡ r → Is
-      go false a b k r m = away a (C ∙ ap column_by (answer_out f l (ask_column i) a))
-      go true a false k r m = shut a k (C ∙ ap column_by (answer_shut f l (ask_column i) q Q a k))
-      go true a true k none m =
-          lost a k m (C ∙ ap column_by (answer_open f l (ask_column i) q Q a k) ∙ ap (λ (r : Try (List VarType)). column_by (or_refused (bind r λ t. got (said t)))) m)
-      go true a true k (got t) m =
-          here a k t m (C ∙ ap column_by (answer_open f l (ask_column i) q Q a k) ∙ ap (λ (r : Try (List VarType)). column_by (or_refused (bind r λ t. got (said t)))) m)
+      go : (r : Try (List VarType)) → layout_types e o f l ≡ r → Err d ≡ asked
+      go none h = let z : d ≡ NotReadable = cc (D ∙ column_is none h) in tells none h (ap Err z)
+      go (got t) h = absurd (false≢true (cc (D ∙ column_is (got t) h)))
 
-  code_of : (n : ℕ) → c ≡ no_column n → c.code ≡ n
-  code_of n h = ap (λ (x : Column). x.code) h
-
-  pub cell_away : c.code ≡ 16 → refused 16 ≡ answer_of f l (ask_cell i j)
-  cell_away h = go cases
-    where
-      go : Is → refused 16 ≡ answer_of f l (ask_cell i j)
-      go (away a k) = sym (answer_out f l (ask_cell i j) (rw a))
-      go (shut a b k) = absurd (omega (arith, h, code_of 17 k))
-      go (lost a b m k) = absurd (omega (arith, h, code_of 17 k))
-      go (here a b t m k) = absurd (omega (arith, h, ap (λ (x : Column). x.code) k))
-
-  pub row_away : among j l.rows ≡ false → refused 16 ≡ answer_of f l (ask_cell i j)
-  row_away h = sym (answer_out f l (ask_cell i j) (rw (h, and-false)))
-
-  module _ (J : among j l.rows ≡ true) where
-    both : among i l.variables ≡ true → in_range l (ask_cell i j) ≡ true
-    both a = rw (a, J)
-
-    opens : among i l.variables ≡ true → q.there ≡ true → answer_of f l (ask_cell i j) ≡ or_refused (bind (cell_in e o f l i j) λ s. got (cell s))
-    opens a b = answer_open f l (ask_cell i j) q Q (both a) b
-
-    pub cell_none : (c.code ≡ 16 → ⊥) → (c.code ≡ 0 → ⊥) → refused 17 ≡ answer_of f l (ask_cell i j)
-    cell_none h z = go cases
-      where
-        go : Is → refused 17 ≡ answer_of f l (ask_cell i j)
-        go (away a k) = absurd (h (code_of 16 k))
-        go (shut a b k) = sym (answer_shut f l (ask_cell i j) q Q (both a) b)
-        go (lost a b m k) = sym (opens a b ∙ (rw m))
-        go (here a b t m k) = absurd (z (ap (λ (x : Column). x.code) k))
-
-    -- the cell of a type x at p
+  module _ (c : Column) (C : Ok c ≡ column_by (answer_of f l (ask_column i))) where
+    -- the cell of a type
     pub record Stands : Type 0 where
-      pub there : q.there ≡ true
       pub type : VarType
       pub off : ℕ
       pub row : ℕ
       pub has : has_type e.tagged type ≡ true
-      pub column : c ≡ record { code = 0; kind = (field_by type).kind; width = (field_by type).width; offset = capped off; row = capped row }
-      pub is : answer_of f l (ask_cell i j) ≡ cell_said e o f type (start_of e.tagged l 9 n_data + (j - 1) * row + off)
+      pub column : c ≡ record { field = field_by type; offset = capped off; row = capped row }
+      pub is : {x : Result Cell Refusal} → x ≡ said_by (cell_said e o f type (start_of e.tagged l 9 n_data + (j - 1) * row + off)) → x ≡ asked
 
-    pub stands : c.code ≡ 0 → Stands
+    pub stands : Stands
     unfolding cell_said
-    stands h = go cases
+    stands = go (layout_types e o f l) refl
       where
-        go : Is → Stands
-        go (away a k) = absurd (omega (arith, h, code_of 16 k))
-        go (shut a b k) = absurd (omega (arith, h, code_of 17 k))
-        go (lost a b m k) = absurd (omega (arith, h, code_of 17 k))
-        go (here a b t m k) =
+        go : (r : Try (List VarType)) → layout_types e o f l ≡ r → Stands
+        go none h = absurd (false≢true (cc (C ∙ column_is none h)))
+        go (got t) h =
+            let a = among_in i l.variables among_both.0 in
             record {
-              there = b;
               type = get_or t (i - 1) byte_type;
               off = offset_in e t i;
               row = width_in e t;
-              has = types_has e.tagged o f l.variables (start_of e.tagged l 2 n_variable_types) t m (i - 1) (omega (arith, (among_in i l.variables a).0, (among_in i l.variables a).1));
-              column = k;
-              is = opens a b ∙ (rw m);
+              has = types_has e.tagged o f l.variables (start_of e.tagged l 2 n_variable_types) t h (i - 1) (omega (arith, a));
+              column = cc (C ∙ column_is (got t) h);
+              is = λ {x} k. tells (got t) h k;
             }
 
 -- ---- capped places
@@ -303,10 +287,10 @@ capped_said e o f x t w h s m r y n = go (leb (length f) (s + m * capped r + cap
 -- ---- for the code
 
 -- kind and width of a type, as code hands them on
-pub kind_known : (c : Column) (x : VarType) (a b : ℕ) → c ≡ record { code = 0; kind = (field_by x).kind; width = (field_by x).width; offset = a; row = b }
-    → (known c.kind ≡ true) × (type_of c.kind c.width ≡ x) × (c.offset ≡ a) × (c.row ≡ b)
+pub kind_known : (c : Column) (x : VarType) (a b : ℕ) → c ≡ record { field = field_by x; offset = a; row = b }
+    → (known c.field.kind ≡ true) × (type_of c.field.kind c.field.width ≡ x) × (c.offset ≡ a) × (c.row ≡ b)
 kind_known c x a b e =
-    (ap (λ (y : Column). known y.kind) e ∙ type_known x, ap (λ (y : Column). type_of y.kind y.width) e ∙ type_back x, ap (λ (y : Column). y.offset) e, ap (λ (y : Column). y.row) e)
+    (ap (λ (y : Column). known y.field.kind) e ∙ type_known x, ap (λ (y : Column). type_of y.field.kind y.field.width) e ∙ type_back x, ap (λ (y : Column). y.offset) e, ap (λ (y : Column). y.row) e)
 
 pub width_is : (vw ow : ℕ) → vw + ow ≡ 8 → (x : VarType) → (field_by x).width ≡ cell_width vw ow x
 width_is vw ow e (text_type w) = refl
@@ -317,7 +301,7 @@ width_is vw ow e long_type = refl
 width_is vw ow e float_type = refl
 width_is vw ow e double_type = refl
 
-pub text_kind : (e : Edition) (o : Order) (f : List ℕ) (k : Kind) (w p : ℕ) → is_text k ≡ true → (r : Said) → r ≡ said_by (cell_said e o f (text_type w) p)
+pub text_kind : (e : Edition) (o : Order) (f : List ℕ) (k : Kind) (w p : ℕ) → is_text k ≡ true → (r : Result Cell Refusal) → r ≡ said_by (cell_said e o f (text_type w) p)
     → r ≡ said_by (cell_said e o f (type_of k w) p)
 text_kind e o f Text w p h r s = s
 text_kind e o f StrL w p h r s = absurd (false≢true h)

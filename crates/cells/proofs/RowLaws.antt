@@ -1,151 +1,121 @@
 -- Where a row stands, and what a cell in it says.
-use mathlib.Core.Path.{◌≡◌, refl, sym, ap, ◌∙◌, subst}
+use mathlib.Core.Path.{◌≡◌, refl, sym, ap, ◌∙◌}
 use Prim.Native.Nat.{ℕ, ◌+◌, ◌-◌, ◌*◌, ◌≤◌, ◌<◌}
 use native.Mathlib.Omega.{arith}
 use mathlib.Core.List.{List}
-use mathlib.Core.Bool.{Bool, true, false, not, cond, ◌||◌}
+use mathlib.Core.Bool.{Bool, true, false, false≢true}
 use lib.ListN.{length}
-use lib.Dec.{eqb, leb}
-use borrow.Author.Tests.{eqb-true, eqb-false, ne_eqb, leb-true, leb-false}
-use Rattle.format.specs.Number.{Order, order_by}
+use lib.Dec.{leb}
+use borrow.Author.Tests.{leb-true, leb-false}
+use Rattle.std.specs.Prelude.{Option, Result, Ok, Err}
+use Rattle.std.specs.Option.{ok_or}
+use Rattle.refusal.specs.declared.Refusal.{Refusal}
+use Rattle.refusal.specs.declared.Refusal.TheVariants.{NotThere, NotReadable}
+use Rattle.format.specs.Number.{order_by}
 use Rattle.format.specs.Edition.{Edition, n_data}
-use Rattle.format.specs.Variables.{VarType, has_type}
+use Rattle.format.specs.Variables.{VarType}
 use Rattle.format.specs.Data.{cell_width}
 use Rattle.format.specs.Dta.{Layout}
 use Rattle.codes.specs.Fields.{type_of}
+use Rattle.cell.specs.declared.Cell.{Cell}
 use Rattle.editions.specs.Editions.{numbers_of}
-use Rattle.questions.specs.Ask.{refused, among, start_of, answer_of, ask_column, ask_cell}
-use Rattle.questions.specs.Readings.{Try}
+use Rattle.questions.specs.Ask.{among, start_of, in_range, answer_of, ask_column, ask_cell}
+use Rattle.questions.specs.Readings.{Try, none, got}
 use Rattle.reading.specs.declared.Opened.{Opened}
-use Rattle.reading.specs.Reads.{read_by, place_in, opened_by, edition_in}
+use Rattle.reading.specs.Reads.{read_by, place_in, edition_in}
 use Rattle.reading.proofs.AnswerLaws.{edition_widths}
+use Rattle.answers.specs.Answers.{opened_if}
+use Rattle.answers.proofs.TellLaws.{is_open}
 use Rattle.columns.specs.declared.Column.{Column}
 use Rattle.columns.specs.Columns.{capped, column_by}
-use Rattle.cells.specs.declared.Said.{Said}
-use Rattle.cells.specs.declared.Row.{Row}
-use Rattle.cells.specs.Cells.{no_said, said_by, cell_said, HasKind, no_row, row_by, row_in, RowRead, said_in, RowSaid}
-use Rattle.cells.proofs.CellLaws.{cell_away, row_away, cell_none, stands, cell_past, far, kind_known, width_is, capped_said}
+use Rattle.cells.specs.Cells.{said_by, cell_said, row_by, row_in, RowRead, CellSaid}
+use Rattle.cells.proofs.CellLaws.{among_both, stands, cell_past, far, kind_known, width_is, capped_said}
 
 -- ---- a row
 
-module _ (f : List ℕ) (c w j n p : ℕ) where
-  pub no_column_lem : c ≡ 16 → no_row 16 ≡ row_in f c w j n p
-  unfolding row_in
-  no_column_lem h = rw h
+-- what is read, as a row
+pub ok_row : {x : Result ℕ Refusal} {o : Option ℕ} (t : Try ℕ) → x ≡ ok_or o NotReadable → o ≡ read_by t → x ≡ row_by t
+ok_row none h e = h ∙ ap (λ (y : Option ℕ). ok_or y NotReadable) e
+ok_row (got n) h e = h ∙ ap (λ (y : Option ℕ). ok_or y NotReadable) e
 
-  pub row_out : (c ≡ 16 → ⊥) → among j n ≡ false → no_row 16 ≡ row_in f c w j n p
+module _ (f : List ℕ) (w j n p : ℕ) where
+  pub row_out : among j n ≡ false → Err NotThere ≡ row_in f w j n p
   unfolding row_in
-  row_out a h = rw (ne_eqb c 16 a, h)
+  row_out h = rw h
 
-  pub row_lost : (c ≡ 16 → ⊥) → among j n ≡ true → (c ≡ 0 → ⊥) → no_row 17 ≡ row_in f c w j n p
+  pub row_read : among j n ≡ true → (r : Result ℕ Refusal) → r ≡ row_by (place_in f (p + (j - 1) * w)) → r ≡ row_in f w j n p
   unfolding row_in
-  row_lost a h z = rw (ne_eqb c 16 a, h, ne_eqb c 0 z)
+  row_read h r e = rw h e
 
-  pub row_read : c ≡ 0 → among j n ≡ true → (t : Try ℕ) → t ≡ place_in f (p + (j - 1) * w) → row_by t ≡ row_in f c w j n p
+  -- of a row that is there
+  pub row_past : among j n ≡ true → (d : Refusal) → Err d ≡ row_in f w j n p → (d ≡ NotReadable) × (length f < p + (j - 1) * w)
   unfolding row_in
-  row_read z h t e = rw (z, h, e)
-
-  -- what r is
-  pub data Is (r : Row) : Type 0 where
-    gone : c ≡ 16 → r ≡ no_row 16 → Is r
-    out : among j n ≡ false → r ≡ no_row 16 → Is r
-    lost : (c ≡ 16 → ⊥) → among j n ≡ true → (c ≡ 0 → ⊥) → r ≡ no_row 17 → Is r
-    past : among j n ≡ true → c ≡ 0 → length f < p + (j - 1) * w → r ≡ no_row 17 → Is r
-    here : among j n ≡ true → c ≡ 0 → p + (j - 1) * w ≤ length f → r ≡ record { code = 0; at = p + (j - 1) * w } → Is r
-
-  pub row_is : (r : Row) → r ≡ row_in f c w j n p → Is r
-  unfolding row_in
-  row_is r e = go (eqb c 16) refl (among j n) refl (eqb c 0) refl (leb (p + (j - 1) * w) (length f)) refl
+  row_past h d D = go (leb (p + (j - 1) * w) (length f)) refl
     where
-      go : (a : Bool) → eqb c 16 ≡ a → (b : Bool) → among j n ≡ b → (z : Bool) → eqb c 0 ≡ z → (t : Bool) → leb (p + (j - 1) * w) (length f) ≡ t → Is r
-      go true a b B z Z t T = gone (eqb-true c 16 a) (e ∙ rw a)
-      go false a false B z Z t T = out B (e ∙ rw (a, B))
-      go false a true B false Z t T = lost (eqb-false c 16 a) B (eqb-false c 0 Z) (e ∙ rw (a, B, Z))
-      go false a true B true Z false T = past B (eqb-true c 0 Z) (leb-false (p + (j - 1) * w) (length f) T) (e ∙ rw (a, B, Z, T))
-      go false a true B true Z true T = here B (eqb-true c 0 Z) (leb-true (p + (j - 1) * w) (length f) T) (e ∙ rw (a, B, Z, T))
+      go : (t : Bool) → leb (p + (j - 1) * w) (length f) ≡ t → (d ≡ NotReadable) × (length f < p + (j - 1) * w)
+      go true T = let k : Err d ≡ Ok (p + (j - 1) * w) = rw (h, T) at D in absurd (false≢true (cc k))
+      go false T = let k : Err d ≡ Err NotReadable = rw (h, T) at D in (cc k, leb-false (p + (j - 1) * w) (length f) T)
+
+  pub row_here : (r : ℕ) → Ok r ≡ row_in f w j n p → (r ≡ p + (j - 1) * w) × (p + (j - 1) * w ≤ length f)
+  unfolding row_in
+  row_here r D = go (among j n) refl (leb (p + (j - 1) * w) (length f)) refl
+    where
+      go : (a : Bool) → among j n ≡ a → (t : Bool) → leb (p + (j - 1) * w) (length f) ≡ t → (r ≡ p + (j - 1) * w) × (p + (j - 1) * w ≤ length f)
+      go false a t T = let k : Ok r ≡ Err NotThere = rw a at D in absurd (false≢true (cc k))
+      go true a true T = let k : Ok r ≡ Ok (p + (j - 1) * w) = rw (a, T) at D in (cc k, leb-true (p + (j - 1) * w) (length f) T)
+      go true a false T = let k : Ok r ≡ Err NotReadable = rw (a, T) at D in absurd (false≢true (cc k))
 
 -- ---- a cell in it
 
-module _ (e : Edition) (o : Order) (f : List ℕ) (x : Row) (t : VarType) (n : ℕ) {r : Said} where
-  pub row_refused : (x.code ≡ 0 → ⊥) → r ≡ no_said x.code → r ≡ said_in e o f x t n
-  row_refused z h = h ∙ rw (ne_eqb x.code 0 z)
-
-  pub row_here : x.code ≡ 0 → r ≡ said_by (cell_said e o f t (x.at + n)) → r ≡ said_in e o f x t n
-  row_here z h = h ∙ rw z
-
-module _ (f : List ℕ) (l : Layout) (i j : ℕ) (q : Opened) (Q : q ≡ opened_by (edition_in l.release l.order)) (c : Column) (C : c ≡ column_by (answer_of f l (ask_column i)))
-    (r : Row) (R : r ≡ row_in f c.code c.row j l.rows (start_of (numbers_of q.e).tagged l 9 n_data)) where
+module _ (f : List ℕ) (l : Layout) (i j : ℕ) (q : Opened) (Q : Ok q ≡ opened_if (in_range l (ask_cell i j)) (edition_in l.release l.order))
+    (c : Column) (C : Ok c ≡ column_by (answer_of f l (ask_column i))) where
   abbrev e : Edition
   e = numbers_of q.e
-
-  abbrev o : Order
-  o = order_by q.msf
 
   abbrev s : ℕ
   s = start_of e.tagged l 9 n_data
 
-  code_of : (x : Row) → r ≡ x → r.code ≡ x.code
-  code_of x h = ap (λ (y : Row). y.code) h
+  abbrev asked : Result Cell Refusal
+  asked = said_by (answer_of f l (ask_cell i j))
+
+  eight : (e.v_width + e.o_width ≡ 8)
+  eight = let W = edition_widths l.release l.order q (is_open f l (ask_cell i j) q Q) in omega (arith, W.eight)
 
   -- the row's refusal is that of its cells
-  refused_in : (r.code ≡ 0 → ⊥) → refused r.code ≡ answer_of f l (ask_cell i j)
-  refused_in z = go (row_is f c.code c.row j l.rows s r R)
-    where
-      go : Is f c.code c.row j l.rows s r → refused r.code ≡ answer_of f l (ask_cell i j)
-      go (gone a h) = ap refused (code_of (no_row 16) h) ∙ cell_away f l i j q Q c C a
-      go (out a h) = ap refused (code_of (no_row 16) h) ∙ row_away f l i j q Q c C a
-      go (lost a J b h) = ap refused (code_of (no_row 17) h) ∙ cell_none f l i j q Q c C J a b
-      go (past J b t h) =
-          let S = stands f l i j q Q c C J b in
-          let W = edition_widths l.release l.order q Q S.there in
-          let K = kind_known c S.type (capped S.off) (capped S.row) S.column in
-          let B : s + (j - 1) * c.row ≡ s + (j - 1) * capped S.row = ap (λ (y : ℕ). s + (j - 1) * y) K.3 in
-          ap refused (code_of (no_row 17) h)
-          ∙ cell_past e o f e.tagged S.type (s + (j - 1) * S.row + S.off) (omega (arith, W.eight)) S.has (far s (j - 1) S.row S.off (length f) (omega (arith, B, t)))
-          ∙ sym S.is
-      go (here J b t h) = absurd (z (ap (λ (y : Row). y.code) h))
+  pub row_unread : (d : Refusal) → Err d ≡ row_in f c.row j l.rows s → Err d ≡ asked
+  row_unread d D =
+      let S = stands f l i j q Q c C in
+      let K = kind_known c S.type (capped S.off) (capped S.row) S.column in
+      let B : s + (j - 1) * c.row ≡ s + (j - 1) * capped S.row = ap (λ (y : ℕ). s + (j - 1) * y) K.3 in
+      let x = row_past f c.row j l.rows s (among_both f l i j q Q).1 d D in
+      S.is (ap Err x.0 ∙ ap said_by (cell_past e (order_by q.msf) f e.tagged S.type (s + (j - 1) * S.row + S.off) eight S.has (far s (j - 1) S.row S.off (length f) (omega (arith, B, x)))))
 
   -- the row is there
-  record Ready : Type 0 where
-    pub inside : r.at ≤ length f
-    pub kind : HasKind c.kind c.width e.v_width e.o_width
-    pub is : cell_said e o f (type_of c.kind c.width) (r.at + c.offset) ≡ answer_of f l (ask_cell i j)
+  module _ (r : ℕ) (R : Ok r ≡ row_in f c.row j l.rows s) where
+    pub can_read : RowRead f r c.field.kind c.field.width e.v_width e.o_width
+    can_read =
+        let S = stands f l i j q Q c C in
+        let K = kind_known c S.type (capped S.off) (capped S.row) S.column in
+        record {
+          inside = omega (arith, row_here f c.row j l.rows s r R);
+          kind = record {
+            kind = K.0;
+            width = ap (λ (y : Column). y.field.width) S.column ∙ width_is e.v_width e.o_width eight S.type ∙ ap (cell_width e.v_width e.o_width) (sym K.1);
+            variable = omega (arith, eight);
+            observation = omega (arith, eight);
+          };
+        }
 
-  ready : length f ≤ 18446744073709551615 → r.code ≡ 0 → Ready
-  ready n z = go (row_is f c.code c.row j l.rows s r R)
-    where
-      go : Is f c.code c.row j l.rows s r → Ready
-      go (gone a h) = absurd (omega (arith, z, code_of (no_row 16) h))
-      go (out a h) = absurd (omega (arith, z, code_of (no_row 16) h))
-      go (lost a J b h) = absurd (omega (arith, z, code_of (no_row 17) h))
-      go (past J b t h) = absurd (omega (arith, z, code_of (no_row 17) h))
-      go (here J b t h) =
-          let S = stands f l i j q Q c C J b in
-          let x = S.type in
-          let W = edition_widths l.release l.order q Q S.there in
-          let eight : e.v_width + e.o_width ≡ 8 = omega (arith, W.eight) in
-          let K = kind_known c x (capped S.off) (capped S.row) S.column in
-          let B : s + (j - 1) * c.row ≡ s + (j - 1) * capped S.row = ap (λ (y : ℕ). s + (j - 1) * y) K.3 in
-          let A : r.at ≡ s + (j - 1) * capped S.row = ap (λ (y : Row). y.at) h ∙ B in
-          let P : r.at + c.offset ≡ s + (j - 1) * capped S.row + capped S.off = omega (arith, A, K.2) in
-          record {
-            inside = omega (arith, A, B, t);
-            kind = record {
-              kind = K.0;
-              width = ap (λ (y : Column). y.width) S.column ∙ width_is e.v_width e.o_width eight x ∙ ap (cell_width e.v_width e.o_width) (sym K.1);
-              variable = omega (arith, W.eight);
-              observation = omega (arith, W.eight);
-            };
-            is = ap (λ (y : VarType). cell_said e o f y (r.at + c.offset)) K.1 ∙ ap (cell_said e o f x) P ∙ capped_said e o f x e.tagged eight S.has s (j - 1) S.row S.off n ∙ sym S.is;
-          }
-
-  module _ (n : length f ≤ 18446744073709551615) where
-    pub can_read : RowRead f r c.kind c.width e.v_width e.o_width
-    can_read = record { inside = λ z. (ready n z).inside; kind = λ z. (ready n z).kind }
-
-    pub said_in_lem : (x : Said) → RowSaid e.v_width e.o_width o f r (type_of c.kind c.width) c.offset x → x ≡ said_by (answer_of f l (ask_cell i j))
-    said_in_lem x X = X e refl refl ∙ go (eqb r.code 0) refl
-      where
-        go : (b : Bool) → eqb r.code 0 ≡ b → said_in e o f r (type_of c.kind c.width) c.offset ≡ said_by (answer_of f l (ask_cell i j))
-        go true b = rw b (ap said_by (ready n (eqb-true r.code 0 b)).is)
-        go false b = rw b (ap said_by (refused_in (eqb-false r.code 0 b)))
+    pub said_in_row : length f ≤ 18446744073709551615 → (x : Result Cell Refusal)
+        → CellSaid e.v_width e.o_width (order_by q.msf) f (type_of c.field.kind c.field.width) (r + c.offset) x → x ≡ asked
+    said_in_row n x X =
+        let S = stands f l i j q Q c C in
+        let K = kind_known c S.type (capped S.off) (capped S.row) S.column in
+        let o = order_by q.msf in
+        let B : s + (j - 1) * c.row ≡ s + (j - 1) * capped S.row = ap (λ (y : ℕ). s + (j - 1) * y) K.3 in
+        let P : r + c.offset ≡ s + (j - 1) * capped S.row + capped S.off = omega (arith, row_here f c.row j l.rows s r R, B, K.2) in
+        S.is
+        (X e refl refl
+        ∙ ap (λ (y : VarType). said_by (cell_said e o f y (r + c.offset))) K.1
+        ∙ ap (λ (y : ℕ). said_by (cell_said e o f S.type y)) P
+        ∙ ap said_by (capped_said e o f S.type e.tagged eight S.has s (j - 1) S.row S.off n))

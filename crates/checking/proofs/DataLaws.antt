@@ -6,15 +6,16 @@ use mathlib.Core.List.{List}
 use mathlib.Core.Bool.{Bool, true, false, cond}
 use lib.ListN.{length}
 use Rattle.format.specs.Number.{Order, order_by}
-use Rattle.format.specs.Grammar.{Sect, next, within, times, row, row_width, read_times, judge_times, between, tag}
+use Rattle.format.specs.Grammar.{Sect, next, within, times, row, row_width, read_times, tag}
 use Rattle.format.specs.Edition.{opening, closing, n_data}
 use Rattle.format.specs.Variables.{VarType, type_code}
 use Rattle.format.specs.Data.{Cell, cell, cell_width, observations, strls}
 use Rattle.format.proofs.Good.{also_left, also_right}
 use Rattle.format.proofs.StepLaws.{between_judge, between_read, within_room}
-use Rattle.section.specs.declared.Step.{Step}
+use Rattle.std.specs.Prelude.{Result}
+use Rattle.refusal.specs.declared.Refusal.{Refusal}
 use Rattle.section.specs.Judged.{Judged}
-use Rattle.data.specs.Places.{off_at, Typed}
+use Rattle.data.specs.Places.{Typed}
 use Rattle.data.proofs.PlaceLaws.{width_is}
 use Rattle.strls.specs.declared.Frame.{Frame}
 use Rattle.strls.specs.Links.{Framed, cells_of}
@@ -63,6 +64,6 @@ module _ (f : List ℕ) (d : Frame) (p : ℕ) (e : d.data ≡ p + length (openin
       ap (λ (x : ℕ). read_times (row (cell (order_by d.msf) d.vwidth d.owidth) T) d.n f x) e
       ∙ sym (rows_read d.tagged (order_by d.msf) d.vwidth d.owidth d.n T f p)
 
-  pub data_longs : (q : ℕ) (r : Step) → Judged (strls d.tagged (order_by d.msf) d.rwidth (cells_of f d)) f q r
+  pub data_longs : (q : ℕ) (r : Result ℕ Refusal) → Judged (strls d.tagged (order_by d.msf) d.rwidth (cells_of f d)) f q r
       → Judged (strls d.tagged (order_by d.msf) d.rwidth (O.read f p)) f q r
   data_longs q r j = subst (λ (x : List (List Cell)). Judged (strls d.tagged (order_by d.msf) d.rwidth x) f q r) data_cells j

@@ -1,15 +1,15 @@
 -- The fourteen positions of a file are the places that a walk over its sections met.
-use mathlib.Core.Path.{◌≡◌, refl, sym, ap, ◌∙◌}
-use Prim.Native.Nat.{ℕ, zero, suc, ◌+◌, ◌-◌, ◌*◌, ◌≤◌}
+use mathlib.Core.Path.{◌≡◌, sym, ap, ◌∙◌}
+use Prim.Native.Nat.{ℕ, ◌+◌}
 use native.Mathlib.Omega.{arith}
 use mathlib.Core.List.{List, [], ◌∷◌, ◌++◌}
-use lib.ListN.{length, get_or, take, drop, take-append-drop}
+use lib.ListN.{length, get_or, drop, take-append-drop}
 use lib.Seq.{get_or-take}
 use Rattle.format.specs.Number.{Order}
-use Rattle.format.specs.Grammar.{Sect, next, done, sizes, tag}
+use Rattle.format.specs.Grammar.{next, done, sizes, tag}
 use Rattle.format.specs.Edition.{Edition, opening, closing, n_value_labels, n_stata_dta}
 use Rattle.format.specs.Labels.{LabelBlock, block, blocks}
-use Rattle.format.specs.Dta.{Dataset, Extras, Parts, gather, sums, part_sizes, positions, from_strls, from_data, from_expansions, from_var_labels, from_set_names, from_formats, from_sort_list, from_names, from_types, from_map, sections}
+use Rattle.format.specs.Dta.{Dataset, Extras, Parts, gather, part_sizes, positions, from_strls, from_data, from_expansions, from_var_labels, from_set_names, from_formats, from_sort_list, from_names, from_types, from_map, sections}
 use Rattle.format.proofs.StepLaws.{Met, places_met}
 
 -- the last two positions, from the one before them

@@ -1,23 +1,18 @@
 -- Answers as numbers: each is four, the first of which tells what the others are.
-use Rattle.std.specs.Prelude.{◌≡◌, ℕ, zero, suc, ◌-◌, ◌*◌, ◌/◌, List, [], ◌∷◌, ◌++◌, true, cond, length, drop, leb, ℤ, pos, negsuc, Float}
+use Rattle.std.specs.Prelude.{◌≡◌, ℕ, zero, suc, ◌-◌, ◌*◌, ◌/◌, List, [], ◌∷◌, ◌++◌, true, cond, length, drop, leb, ℤ, pos, negsuc, Float, Result, Ok, Err}
 use Rattle.std.specs.Float.{Format, binary32, binary64}
 use Rattle.std.specs.Float.Ieee.{is_nan, to_bits}
-use Rattle.format.specs.Grammar.{unless}
 use Rattle.format.specs.Variables.{code_of}
 use Rattle.format.specs.Cells.{Says, whole, single, double, letter, between, outside, words, reference}
 use Rattle.format.specs.Dta.{Layout}
 use Rattle.questions.specs.Ask.{Question, Labels, unlabelled, labelled, Answer, refused, count, mark, typed, part, column, labels, cell, plain, long, ask_cell, answer_of, among, in_range}
 use Rattle.asking.specs.declared.Answer as Told
 use Rattle.asking.specs.Asking.{answer_by}
-use Rattle.coded.specs.declared.Four.{Four}
-use Rattle.coded.specs.declared.Run.{Run}
+use Rattle.refusal.specs.declared.Refusal.{Refusal}
+use Rattle.refusal.specs.declared.Refusal.TheVariants.{NotThere}
 
 abbrev pub four : ℕ → ℕ → ℕ → ℕ → List ℕ
 four k a b c = k ∷ a ∷ b ∷ c ∷ []
-
--- the numbers of the code's struct
-abbrev pub four_by : Four → List ℕ
-four_by r = four r.kind r.a r.b r.c
 
 -- a whole number: its size, and 1 where it is negative
 abbrev pub whole_numbers : ℤ → List ℕ
@@ -58,8 +53,8 @@ numbers_of (column t p n) = four 15 (code_of true t) p n
 numbers_of (labels s) = label_numbers s
 
 -- r is the numbers of the answer x
-abbrev pub NumbersOf : Told.Answer → Four → Type 0
-NumbersOf x r = four_by r ≡ numbers_of (answer_by x)
+abbrev pub NumbersOf : Told.Answer → List ℕ → Type 0
+NumbersOf x r = r ≡ numbers_of (answer_by x)
 
 -- ---- answers one after another
 
@@ -79,10 +74,15 @@ least a b = cond (leb a b) a b
 
 -- the answer of a run that begins with the cell of variable i and observation j, into a slice of x numbers: 16 where there is no such cell; else how many
 -- answers are stored, as many as there is room for, and at most n
-abbrev pub run_of : Layout → ℕ → ℕ → ℕ → ℕ → Run
-run_of l i j n x = let there = in_range l (ask_cell i j) in record { code = unless there 16; count = cond there (least (x / 4) n) 0 }
+abbrev pub run_of : Layout → ℕ → ℕ → ℕ → ℕ → Result ℕ Refusal
+run_of l i j n x = let r = Ok (least (x / 4) n) in cond (in_range l (ask_cell i j)) r (Err NotThere)
+
+-- how many answers a run stores
+abbrev pub stored : Result ℕ Refusal → ℕ
+stored (Ok n) = n
+stored (Err e) = 0
 
 -- r is that answer, and w is what the slice then holds, which was d: the answers to q 0, q 1, .. and then what stood there
-pub record Tells (f : List ℕ) (l : Layout) (i j : ℕ) (q : ℕ → Question) (n : ℕ) (d w : List ℕ) (r : Run) : Type 0 where
+pub record Tells (f : List ℕ) (l : Layout) (i j : ℕ) (q : ℕ → Question) (n : ℕ) (d w : List ℕ) (r : Result ℕ Refusal) : Type 0 where
   pub answer : r ≡ run_of l i j n (length d)
-  pub out : w ≡ told f l q r.count ++ drop (r.count * 4) d
+  pub out : w ≡ told f l q (stored r) ++ drop (stored r * 4) d

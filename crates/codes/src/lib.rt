@@ -1,6 +1,6 @@
 #![tactic(auto)]
 
-ghost use Rattle.std.specs.Prelude.{◌≡◌, true, false};
+ghost use Rattle.std.specs.Prelude.{◌≡◌};
 ghost use Rattle.format.specs.Edition.{code_width};
 ghost use Rattle.codes.specs.Fields.{field_of};
 
@@ -24,91 +24,34 @@ pub struct Field {
     pub width: usize,
 }
 
-// The field of a code in a tagged edition.
-fn tagged_field(code: u16) -> Field
-    ensures { result ≡ field_of true code }
-{
-    match code {
-        1..=2045 => Field {
-            kind: Kind::Text,
-            width: code as usize,
-        },
-        32768 => Field {
-            kind: Kind::StrL,
-            width: 8,
-        },
-        65526 => Field {
-            kind: Kind::Double,
-            width: 8,
-        },
-        65527 => Field {
-            kind: Kind::Float,
-            width: 4,
-        },
-        65528 => Field {
-            kind: Kind::Long,
-            width: 4,
-        },
-        65529 => Field {
-            kind: Kind::Int,
-            width: 2,
-        },
-        65530 => Field {
-            kind: Kind::Byte,
-            width: 1,
-        },
-        _ => Field {
-            kind: Kind::Unknown,
-            width: 0,
-        },
-    }
-}
-
-// The field of a code in an untagged edition.
-fn untagged_field(code: u16) -> Field
-    ensures { result ≡ field_of false code }
-{
-    match code {
-        1..=244 => Field {
-            kind: Kind::Text,
-            width: code as usize,
-        },
-        251 => Field {
-            kind: Kind::Byte,
-            width: 1,
-        },
-        252 => Field {
-            kind: Kind::Int,
-            width: 2,
-        },
-        253 => Field {
-            kind: Kind::Long,
-            width: 4,
-        },
-        254 => Field {
-            kind: Kind::Float,
-            width: 4,
-        },
-        255 => Field {
-            kind: Kind::Double,
-            width: 8,
-        },
-        _ => Field {
-            kind: Kind::Unknown,
-            width: 0,
-        },
-    }
-}
-
-// The field of a code: its kind and width, or `Unknown` and 0 where the edition does not know the code.
+// The field of a code: its kind and width, or `Unknown` and 0 where the edition does not know the code. A match on the pair of both would
+// be one test after another, which is slower.
 pub fn field_of(tagged: bool, code: u16) -> Field
     ensures { result ≡ field_of tagged code }
 {
-    if tagged {
-        tagged_field(code)
+    let (kind, width) = if tagged {
+        match code {
+            1..=2045 => (Kind::Text, code as usize),
+            32768 => (Kind::StrL, 8),
+            65526 => (Kind::Double, 8),
+            65527 => (Kind::Float, 4),
+            65528 => (Kind::Long, 4),
+            65529 => (Kind::Int, 2),
+            65530 => (Kind::Byte, 1),
+            _ => (Kind::Unknown, 0),
+        }
     } else {
-        untagged_field(code)
-    }
+        match code {
+            1..=244 => (Kind::Text, code as usize),
+            251 => (Kind::Byte, 1),
+            252 => (Kind::Int, 2),
+            253 => (Kind::Long, 4),
+            254 => (Kind::Float, 4),
+            255 => (Kind::Double, 8),
+            _ => (Kind::Unknown, 0),
+        }
+    };
+    Field { kind, width }
 }
 
 // How many bytes a type code has.

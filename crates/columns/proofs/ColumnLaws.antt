@@ -9,7 +9,7 @@ use mathlib.Core.Bool.{Bool, true, false, cond, false≢true}
 use lib.ListN.{length, get_or, take}
 use lib.Dec.{leb, ltb}
 use borrow.Author.Tests.{le-leb, lt-leb, leb-true, leb-false, ltb-true}
-use Rattle.format.specs.Number.{Order, num}
+use Rattle.format.specs.Number.{Order, order_by, num}
 use Rattle.format.specs.Grammar.{row_width}
 use Rattle.format.specs.Edition.{Edition, code_width, text_max, n_variable_types}
 use Rattle.format.specs.Variables.{VarType, text_type, strl_type, byte_type, int_type, long_type, float_type, double_type, type_by, has_type}
@@ -20,12 +20,19 @@ use Rattle.codes.specs.declared.Field.{Field}
 use Rattle.codes.specs.Fields.{field_by, unknown, field_of}
 use Rattle.data.specs.Places.{field_at}
 use Rattle.questions.specs.Readings.{Try, none, got, bind}
-use Rattle.questions.specs.Ask.{Answer, column, or_refused, among, type_in, types_in, layout_types, column_in, start_of}
-use Rattle.reading.specs.declared.Read.{Read}
-use Rattle.reading.specs.Reads.{read_by}
+use Rattle.questions.specs.Ask.{Answer, column, or_refused, among, type_in, types_in, layout_types, column_in, start_of, answer_of, ask_column}
+use Rattle.reading.specs.declared.Opened.{Opened}
+use Rattle.reading.specs.Reads.{edition_in}
 use Rattle.reading.proofs.ReadLaws.{number_got}
+use Rattle.reading.proofs.AnswerLaws.{edition_widths}
+use Rattle.answers.specs.Answers.{opened_if}
+use Rattle.answers.proofs.TellLaws.{tells_open, is_open}
+use Rattle.editions.specs.Editions.{numbers_of}
 use Rattle.columns.specs.declared.Column.{Column}
-use Rattle.columns.specs.Columns.{capped, no_column, column_by, widths, widths_in}
+use Rattle.std.specs.Prelude.{Result, Ok, Err, min}
+use Rattle.refusal.specs.declared.Refusal.{Refusal}
+use Rattle.refusal.specs.declared.Refusal.TheVariants.{NotReadable}
+use Rattle.columns.specs.Columns.{capped, column_by, widths, widths_in}
 
 -- ---- capped numbers
 
@@ -37,6 +44,14 @@ capped_small n h = rw (le-leb n most h)
 
 pub capped_large : (n : ℕ) → 18446744073709551615 < n → 18446744073709551615 ≡ capped n
 capped_large n h = rw (lt-leb n most h)
+
+-- a sum that stops at the greatest number
+pub capped_min : (n : ℕ) → min n 18446744073709551615 ≡ capped n
+capped_min n = go (leb n most) refl
+  where
+    go : (b : Bool) → leb n most ≡ b → min n most ≡ capped n
+    go true e = let h = leb-true n most e in let m : min n most ≡ n = omega arith in m ∙ capped_small n h
+    go false e = let h = leb-false n most e in let m : min n most ≡ most = omega arith in m ∙ capped_large n h
 
 pub capped_le : (n : ℕ) → (capped n ≤ n) × (capped n ≤ 18446744073709551615)
 capped_le n = go (leb n most) refl
@@ -290,27 +305,70 @@ module _ (e : Edition) (o : Order) (f : List ℕ) (l : Layout) (i : ℕ) (p : �
 
   column_by_lem : e.v_width + e.o_width ≡ 8 → (t : List VarType) → types ≡ got t → (s : ℕ) → s ≡ capped (widths t)
       → (x : Field) → x ≡ field_by (get_or t (i - 1) byte_type) → (b : ℕ) → b ≡ capped (widths (take (i - 1) t))
-      → record { code = 0; kind = x.kind; width = x.width; offset = b; row = s } ≡ column_by (or_refused (column_in e o f l i))
+      → Ok (record { field = x; offset = b; row = s }) ≡ column_by (or_refused (column_in e o f l i))
   column_by_lem w t T s S x X b B =
       rw (S, X, B, widths_row e.v_width e.o_width w (take (i - 1) t), widths_row e.v_width e.o_width w t)
       (sym (ap (λ (r : Try Answer). column_by (or_refused r)) (by_types (got t) T)))
 
-  pub column_got : e.v_width + e.o_width ≡ 8 → i - 1 < l.variables → (s : ℕ) → widths_in e.tagged o f l.variables p ≡ got s
-      → (x : Field) → x ≡ field_at e.tagged o f p (i - 1) → (b : Read) → b ≡ read_by (widths_in e.tagged o f (i - 1) p)
-      → record { code = 0; kind = x.kind; width = x.width; offset = b.value; row = s } ≡ column_by (or_refused (column_in e o f l i))
-  unfolding widths_in
-  column_got w h s k x X b B =
-      let g = types_got types s k in
-      let t = g.0 in
-      let a : b ≡ read_by (got (capped (widths (take (i - 1) t)))) = B ∙ rw (types_take e.tagged o f l.variables p t g.1 (i - 1) (omega arith)) in
-      let y : x ≡ field_by (get_or t (i - 1) byte_type) = X ∙ types_at e.tagged o f l.variables p t g.1 (i - 1) h in
-      column_by_lem w t g.1 s g.2 x y b.value (ap (λ (y : Read). y.value) a)
+  module _ (h : i - 1 < l.variables) (s : ℕ) (k : widths_in e.tagged o f l.variables p ≡ got s) where
+    -- the widths before are known where all are
+    pub before_got : widths_in e.tagged o f (i - 1) p ≡ none → ⊥
+    unfolding widths_in
+    before_got b =
+        let g = types_got types s k in
+        let a : widths_in e.tagged o f (i - 1) p ≡ got (capped (widths (take (i - 1) g.0))) = rw (types_take e.tagged o f l.variables p g.0 g.1 (i - 1) (omega arith)) in
+        false≢true (cc (sym b ∙ a))
+
+    pub column_got : e.v_width + e.o_width ≡ 8 → (x : Field) → x ≡ field_at e.tagged o f p (i - 1) → (b : ℕ) → widths_in e.tagged o f (i - 1) p ≡ got b
+        → Ok (record { field = x; offset = b; row = s }) ≡ column_by (or_refused (column_in e o f l i))
+    unfolding widths_in
+    column_got w x X b B =
+        let g = types_got types s k in
+        let t = g.0 in
+        let a : got b ≡ got (capped (widths (take (i - 1) t))) = sym B ∙ rw (types_take e.tagged o f l.variables p t g.1 (i - 1) (omega arith)) in
+        let y : x ≡ field_by (get_or t (i - 1) byte_type) = X ∙ types_at e.tagged o f l.variables p t g.1 (i - 1) h in
+        column_by_lem w t g.1 s g.2 x y b (cc a)
 
 -- ---- for the code
 
 pub less_of : (j n w : ℕ) → j ≤ n → j * w ≤ n * w
 less_of j n w h = mul-le-mul_right w h
 
--- a refusal of a reading
-pub column_answer : (x : Answer) (r : Try Answer) → x ≡ or_refused r → (c : Column) → c ≡ no_column 17 → r ≡ none → c ≡ column_by x
-column_answer x r e c k h = k ∙ sym (ap column_by (e ∙ ap or_refused h))
+-- of an edition and an order that are read, with the types at p
+module _ (f : List ℕ) (l : Layout) (i : ℕ) (r : Opened) (R : Ok r ≡ opened_if (among i l.variables) (edition_in l.release l.order))
+    (p : ℕ) (P : p ≡ start_of r.e.tagged l 2 n_variable_types) where
+  abbrev E : Edition
+  E = numbers_of r.e
+
+  abbrev asked : Result Column Refusal
+  asked = column_by (answer_of f l (ask_column i))
+
+  tells : {x : Result Column Refusal} → x ≡ column_by (or_refused (column_in E (order_by r.msf) f l i)) → x ≡ asked
+  tells = tells_open f l (ask_column i) r R column_by _ refl
+
+  -- a refusal of a reading
+  unread : column_in E (order_by r.msf) f l i ≡ none → Err NotReadable ≡ asked
+  unread h = tells (ap (λ (t : Try Answer). column_by (or_refused t)) (sym h))
+
+  b : (1 ≤ i) × (i ≤ l.variables)
+  b = go (among i l.variables) refl R
+    where
+      go : (a : Bool) → among i l.variables ≡ a → Ok r ≡ opened_if a (edition_in l.release l.order) → (1 ≤ i) × (i ≤ l.variables)
+      go true e h = among_in i l.variables e
+      go false e h = absurd (false≢true (cc h))
+
+  pub told_out : length f < p + l.variables * code_width r.e.tagged → Err NotReadable ≡ asked
+  told_out h = unread (column_out E (order_by r.msf) f l i p P (omega (arith, b)) h)
+
+  pub told_none : widths_in r.e.tagged (order_by r.msf) f l.variables p ≡ none → Err NotReadable ≡ asked
+  told_none h = unread (column_none E (order_by r.msf) f l i p P h)
+
+  module _ (s : ℕ) (S : widths_in r.e.tagged (order_by r.msf) f l.variables p ≡ got s) where
+    pub told_before : widths_in r.e.tagged (order_by r.msf) f (i - 1) p ≡ none → Err NotReadable ≡ asked
+    told_before h = absurd (before_got E (order_by r.msf) f l i p P (omega (arith, b)) s S h)
+
+    pub told_got : (x : Field) → x ≡ field_at r.e.tagged (order_by r.msf) f p (i - 1) → (k : ℕ) → widths_in r.e.tagged (order_by r.msf) f (i - 1) p ≡ got k
+        → Ok (record { field = x; offset = k; row = s }) ≡ asked
+    told_got x X k K =
+        let W = edition_widths l.release l.order r (is_open f l (ask_column i) r R) in
+        tells (column_got E (order_by r.msf) f l i p P (omega (arith, b)) s S (omega (arith, W.eight)) x X k K)

@@ -6,107 +6,52 @@ ghost use Rattle.format.specs.Edition.{code_width};
 ghost use Rattle.questions.specs.Ask.{answer_of, ask_column};
 ghost use Rattle.reading.specs.Reads.{read_by};
 ghost use Rattle.checking.specs.Checks.{layout_by};
-ghost use Rattle.columns.specs.Columns.{capped, no_column, column_by, widths_in};
+ghost use Rattle.columns.specs.Columns.{column_by, widths_in};
 
 use checking::Layout;
-use codes::Kind;
-use reading::Read;
+use codes::Field;
+use refusal::Refusal;
 
-// Where a variable's cells stand: the refusal number; where it is 0, kind and width of the cells, their offset in a row, and the width of
-// a row.
+// Where a variable's cells stand: kind and width of the cells, their offset in a row, and the width of a row.
 #[derive(Clone, Copy)]
 pub struct Column {
-    pub code: u8,
-    pub kind: Kind,
-    pub width: usize,
+    pub field: Field,
     pub offset: u64,
     pub row: u64,
 }
 
-fn no_column(code: u8) -> Column
-    ensures { result ≡ no_column code }
-{
-    Column {
-        code,
-        kind: Kind::Unknown,
-        width: 0,
-        offset: 0,
-        row: 0,
-    }
-}
-
-// How many bytes a type code has.
-fn code_width(tagged: bool) -> u64
-    ensures { result ≡ code_width tagged }
-{
-    if tagged { 2 } else { 1 }
-}
-
-// A sum, or the greatest number where it is greater.
-fn add_capped(a: u64, b: u64) -> u64
-    ensures { result ≡ capped (a + b) }
-{
-    if a <= 18446744073709551615 - b {
-        a + b
-    } else {
-        18446744073709551615
-    }
-}
-
-// The widths of the cells of the `n` types at `p`, added up, where all are known.
-fn width_sum(f: &[u8], p: usize, n: usize, tagged: bool, msf: bool) -> Read
+// The widths of the cells of the `n` types at `p`, added up, where all are known; the greatest number where the sum is greater.
+fn width_sum(f: &[u8], p: usize, n: usize, tagged: bool, msf: bool) -> Option<u64>
     requires { p + n * code_width tagged ≤ length f.now }
     ensures { result ≡ read_by (widths_in tagged (order_by msf) f.now n p) }
 {
-    let mut s: u64 = 0;
-    let mut j: usize = 0;
-    while j < n {
+    let mut sum: u64 = 0;
+    for j in 0..n {
         let x = data::field_at(f, p, j, tagged, msf);
         if x.width == 0 {
-            return Read {
-                there: false,
-                value: 0,
-            };
+            return None;
         }
-        s = add_capped(s, x.width as u64);
-        j += 1;
+        sum = sum.saturating_add(x.width as u64);
     }
-    Read {
-        there: true,
-        value: s,
-    }
+    Some(sum)
 }
 
 // Where the cells of variable `i` stand.
-pub fn column_of(f: &[u8], l: Layout, i: u64) -> Column
+pub fn column_of(f: &[u8], l: Layout, i: u64) -> Result<Column, Refusal>
     ensures { result ≡ column_by (answer_of f.now (layout_by l) (ask_column i)) }
 {
-    if !reading::is_among(i, l.k) {
-        return no_column(16);
-    }
-    let o = reading::edition_in(l.edition, l.order);
-    if !o.there {
-        return no_column(17);
-    }
-    let a = reading::tag_size(o.e.tagged, 16);
-    let z = reading::place_in(f, l.places[2], a, l.k, code_width(o.e.tagged));
-    if !z.there {
-        return no_column(17);
-    }
+    let o = answers::opened(reading::is_among(i, l.k), l.edition, l.order)?;
+    let tagged = o.e.tagged;
+    let a = reading::tag_size(tagged, 16);
+    let w = codes::code_width(tagged) as u64;
+    reading::place_in(f, l.places[2], a, l.k, w).ok_or(Refusal::NotReadable)?;
     let p = (l.places[2] + a) as usize;
-    let row = width_sum(f, p, l.k as usize, o.e.tagged, o.msf);
-    if !row.there {
-        return no_column(17);
-    }
+    let row = width_sum(f, p, l.k as usize, tagged, o.msf).ok_or(Refusal::NotReadable)?;
     let k = (i - 1) as usize;
-    let x = data::field_at(f, p, k, o.e.tagged, o.msf);
-    let kind = x.kind;
-    let before = width_sum(f, p, k, o.e.tagged, o.msf);
-    Column {
-        code: 0,
-        kind,
-        width: x.width,
-        offset: before.value,
-        row: row.value,
-    }
+    let offset = width_sum(f, p, k, tagged, o.msf).ok_or(Refusal::NotReadable)?;
+    Ok(Column {
+        field: data::field_at(f, p, k, tagged, o.msf),
+        offset,
+        row,
+    })
 }

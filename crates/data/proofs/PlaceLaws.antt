@@ -1,6 +1,6 @@
 -- Laws of the places in the data: the grammar's rows and cells stand there.
 use mathlib.Core.Path.{◌≡◌, refl, sym, ap, ◌∙◌, subst}
-use Prim.Native.Nat.{ℕ, zero, suc, ◌+◌, ◌*◌, ◌^◌, ◌≤◌, ◌<◌}
+use Prim.Native.Nat.{ℕ, zero, suc, ◌+◌, ◌*◌, ◌≤◌, ◌<◌}
 use native.Mathlib.Nat.{mul-le-mul_right, suc-mul, zero-mul, add-zero, zero-add, not-suc-le-zero}
 use native.Mathlib.Omega.{arith}
 use native.Mathlib.Numerals.{add-one}
@@ -10,7 +10,7 @@ use lib.ListN.{length}
 use lib.Dec.{leb}
 use borrow.Author.Tests.{leb-true, leb-false}
 use Rattle.format.specs.Number.{Order, num}
-use Rattle.format.specs.Grammar.{Sect, next, within, times, judge_times, read_times, row, row_size, judge_row, read_row, row_width}
+use Rattle.format.specs.Grammar.{Sect, next, times, judge_times, read_times, row, row_size, judge_row, read_row, row_width}
 use Rattle.format.specs.Edition.{code_width, text_max}
 use Rattle.format.specs.Variables.{VarType, text_type, strl_type, byte_type, int_type, long_type, float_type, double_type, type_by, has_type, type_code}
 use Rattle.format.specs.Data.{Cell, cell, cell_width}

@@ -1,5 +1,5 @@
 -- Where the data's cells stand, counted from the bytes of the type list. Variables and observations are counted from 0.
-use Rattle.std.specs.Prelude.{◌≡◌, ℕ, zero, suc, ◌+◌, ◌*◌, ◌≤◌, List, Bool, length}
+use Rattle.std.specs.Prelude.{◌≡◌, ℕ, zero, suc, ◌+◌, ◌*◌, ◌≤◌, List, Bool, length, Result}
 use Rattle.format.specs.Number.{Order, num}
 use Rattle.format.specs.Grammar.{read_times, judge_times}
 use Rattle.format.specs.Edition.{code_width}
@@ -7,7 +7,7 @@ use Rattle.format.specs.Variables.{type_code}
 use Rattle.format.specs.Data.{observations}
 use Rattle.codes.specs.declared.Field.{Field}
 use Rattle.codes.specs.Fields.{field_of}
-use Rattle.section.specs.declared.Step.{Step}
+use Rattle.refusal.specs.declared.Refusal.{Refusal}
 use Rattle.section.specs.Judged.{Judged}
 
 module _ (t : Bool) (o : Order) (f : List ℕ) (tp : ℕ) where
@@ -35,5 +35,5 @@ module _ (t : Bool) (o : Order) (f : List ℕ) (tp : ℕ) where
     pub right : judge_times (type_code t o) k f tp ≡ 0
 
   -- r is the answer for n observations of these k variables at p, where a strL cell has 8 bytes
-  abbrev pub DataJudged : ℕ → ℕ → ℕ → Step → Type 0
+  abbrev pub DataJudged : ℕ → ℕ → ℕ → Result ℕ Refusal → Type 0
   DataJudged k n p r = (vw ow : ℕ) → vw + ow ≡ 8 → Judged (observations t o vw ow (read_times (type_code t o) k f tp) n) f p r

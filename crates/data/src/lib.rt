@@ -5,7 +5,7 @@ ghost use Rattle.format.specs.Number.{order_by};
 ghost use Rattle.format.specs.Edition.{code_width};
 ghost use Rattle.data.specs.Places.{field_at, off_at, Typed, DataJudged};
 
-use section::Step;
+use refusal::Refusal;
 
 // Kind and width of the cells of variable `i`, with the type list at `types`.
 pub fn field_at(f: &[u8], types: usize, i: usize, tagged: bool, msf: bool) -> codes::Field
@@ -22,12 +22,9 @@ pub fn row_width(f: &[u8], types: usize, k: usize, tagged: bool, msf: bool) -> u
     requires { Typed tagged (order_by msf) f.now types k }
     ensures { result ≡ off_at tagged (order_by msf) f.now types k }
 {
-    let mut sum: usize = 0;
-    let mut i: usize = 0;
-    while i < k {
-        let x = field_at(f, types, i, tagged, msf);
-        sum += x.width;
-        i += 1;
+    let mut sum = 0;
+    for i in 0..k {
+        sum += field_at(f, types, i, tagged, msf).width;
     }
     sum
 }
@@ -41,14 +38,11 @@ pub fn data_list(
     n: usize,
     tagged: bool,
     msf: bool,
-) -> Step
+) -> Result<usize, Refusal>
     requires { (p ≤ length f.now) × (n ≤ 2147483647) × (Typed tagged (order_by msf) f.now types k) }
     ensures { DataJudged tagged (order_by msf) f.now types k n p result }
 {
     let m = n * row_width(f, types, k, tagged, msf);
-    let a = section::opened(f, p, b"<data>", tagged, m);
-    if a.code != 0 {
-        return a;
-    }
-    section::closed(f, a.at + m, 0, b"</data>", tagged)
+    let at = section::opened(f, p, b"<data>", tagged, m)?;
+    section::tag_if(f, at + m, b"</data>", Refusal::WrongTag, tagged)
 }

@@ -15,6 +15,10 @@ use Rattle.asking.specs.declared.Answer as Told
 use Rattle.asking.specs.declared.Answer.TheVariants as A
 use Rattle.asking.specs.Asking.{question_by, told_by, answer_by, Asked}
 use Rattle.asking.proofs.AskLaws.{asked_means}
+use Rattle.refusal.specs.declared.Refusal.{Refusal}
+use Rattle.refusal.specs.declared.Refusal.TheVariants.{NotThere, NotReadable}
+use Rattle.refusal.specs.Refusals.{number_of}
+use Rattle.demands.proofs.RefusalLaws.{same_refusal}
 use Rattle.demands.specs.Logic.{Iff}
 use Rattle.demands.specs.Demands.{read_for, AskGiven, ToldGiven}
 
@@ -101,14 +105,18 @@ told_given by f l q r h =
 pub ask_given : (f : List ℕ) (l : Layout) (q : Code.Question) (r : Told.Answer) → Asked f l q r → AskGiven f l q r
 ask_given f l q r h =
     record {
-      out_of_range = (λ e. (given_16 f l s).0 (back 16 e), λ e. h ∙ ap told_by ((given_16 f l s).1 e));
-      unread = (λ e. (given_17 f l s).0 (back 17 e), λ e. h ∙ ap told_by ((given_17 f l s).1 e));
-      number = λ c e. no_other f l s c (back c e);
+      out_of_range = (λ e. (given_16 f l s).0 (back NotThere e), λ e. h ∙ ap told_by ((given_16 f l s).1 e));
+      unread = (λ e. (given_17 f l s).0 (back NotReadable e), λ e. h ∙ ap told_by ((given_17 f l s).1 e));
+      number = λ c e. which c (no_other f l s (number_of c) (back c e));
       answer = λ a e k. h ∙ ap told_by (is_read f l s a e k);
     }
   where
     s : Question
     s = question_by q
 
-    back : (c : ℕ) → r ≡ A.Refused c → answer_of f l s ≡ refused c
+    back : (c : Refusal) → r ≡ A.Refused c → answer_of f l s ≡ refused (number_of c)
     back c e = sym (asked_means f l q) ∙ ap answer_by (sym h ∙ e)
+
+    which : (c : Refusal) → (number_of c ≡ 16) ⊎ (number_of c ≡ 17) → (c ≡ NotThere) ⊎ (c ≡ NotReadable)
+    which c (inl e) = inl (same_refusal c NotThere e)
+    which c (inr e) = inr (same_refusal c NotReadable e)

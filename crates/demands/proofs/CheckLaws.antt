@@ -1,9 +1,12 @@
 -- The verdict's numbers, one by one.
-use mathlib.Core.Path.{◌≡◌, sym, ◌∙◌}
+use mathlib.Core.Path.{◌≡◌, refl, sym, ◌∙◌}
 use Prim.Native.Nat.{ℕ}
 use mathlib.Core.List.{List}
 use Rattle.format.specs.Dta.{verdict}
-use Rattle.checking.specs.declared.Checked.{Checked}
+use Rattle.std.specs.Prelude.{Result, Ok, Err, IfOk}
+use Rattle.refusal.specs.declared.Refusal.{Refusal}
+use Rattle.refusal.specs.Refusals.{code_of}
+use Rattle.checking.specs.declared.Layout.{Layout}
 use Rattle.checking.specs.Checks.{Checks}
 use Rattle.demands.specs.Logic.{Iff}
 use Rattle.demands.specs.Demands.{CheckGiven}
@@ -19,10 +22,15 @@ use Rattle.demands.proofs.ComesLaws.{cut_short, tag_differs}
 use Rattle.demands.proofs.VerdictLaws.{verdict_number, long_verdict, unknown_verdict, first_verdict, is_long, is_unknown, no_layout_lem}
 
 -- the answer's number is the verdict
-of_code {ℓ} : (f : List ℕ) (r : Checked) → Checks f r → (c : ℕ) {X : Type ℓ} → Iff (verdict f ≡ c) X → Iff (r.code ≡ c) X
+of_code {ℓ} : (f : List ℕ) (r : Result Layout Refusal) → Checks f r → (c : ℕ) {X : Type ℓ} → Iff (verdict f ≡ c) X → Iff (code_of r ≡ c) X
 of_code f r h c i = (λ q. i.0 (sym h.code ∙ q), λ x. h.code ∙ i.1 x)
 
-pub check_given : (f : List ℕ) (r : Checked) → Checks f r → CheckGiven f r
+-- an answer that is refused has no layout
+none_given : (r : Result Layout Refusal) → (code_of r ≡ 0 → ⊥) → IfOk r (λ l. ⊥)
+none_given (Ok l) n = n refl
+none_given (Err e) n = tt
+
+pub check_given : (f : List ℕ) (r : Result Layout Refusal) → Checks f r → CheckGiven f r
 check_given f r h =
     record {
       number = rw h.code (verdict_number f);
@@ -40,5 +48,5 @@ check_given f r h =
       link_broken = of_code f r h 11 (link_broken f);
       table_broken = of_code f r h 12 (table_broken f);
       bytes_left = of_code f r h 13 (bytes_left f);
-      bare = λ n. h.layout ∙ no_layout_lem f (λ q. n (h.code ∙ q));
+      bare = λ n. (none_given r n, no_layout_lem f (λ q. n (h.code ∙ q)));
     }

@@ -15,7 +15,10 @@ use Rattle.format.specs.Labels.{LabelBlock, block}
 use Rattle.format.specs.Dta.{sums, edition_of, order_of, dataset_of, layout_of, verdict, cuts}
 use Rattle.format.proofs.AreaLaws.{or_cases, or_left, or_right}
 use Rattle.format.proofs.Theorems.{cut_files}
-use Rattle.checking.specs.declared.Checked.{Checked}
+use Rattle.std.specs.Prelude.{Result}
+use Rattle.refusal.specs.declared.Refusal.{Refusal}
+use Rattle.refusal.specs.Refusals.{code_of}
+use Rattle.checking.specs.declared.Layout.{Layout}
 use Rattle.checking.specs.Checks.{Checks}
 use Rattle.demands.specs.Cuts.{CutGiven}
 
@@ -45,15 +48,15 @@ module _ {A : Type 0} (S : Sect A) where
   end_in (a ∷ l) p n zero b e = or_left (eqb n p) _ (eq-eqb n p (e ∙ add-zero p))
   end_in (a ∷ l) p n (suc m) b e = or_right (eqb n p) _ (end_in l (p + S.size a) n m (omega arith) (omega arith))
 
-module _ (f : List ℕ) (u : Bytes f) (h : verdict f ≡ 0) (n : ℕ) (s : n ≤ length f) (b : Checked) (C : Checks (take n f) b) where
+module _ (f : List ℕ) (u : Bytes f) (h : verdict f ≡ 0) (n : ℕ) (s : n ≤ length f) (b : Result Layout Refusal) (C : Checks (take n f) b) where
   abbrev S : Sect LabelBlock
   S = block (edition_of f).tagged (order_of f) (edition_of f).name_width
 
   -- accepted exactly at a cut
-  at_cut : b.code ≡ 0 → member n (cuts f) ≡ true
+  at_cut : code_of b ≡ 0 → member n (cuts f) ≡ true
   at_cut z = (cut_files f u h n s).to (sym C.code ∙ z)
 
-  of_cut : member n (cuts f) ≡ true → b.code ≡ 0
+  of_cut : member n (cuts f) ≡ true → code_of b ≡ 0
   of_cut m = C.code ∙ (cut_files f u h n s).from m
 
   -- the cuts of a tagged file, and of an untagged one

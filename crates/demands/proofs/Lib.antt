@@ -13,6 +13,7 @@ pub mod TextLaws
 pub mod LinkLaws
 pub mod LocatedLaws
 pub mod ComesLaws
+pub mod RefusalLaws
 pub mod CheckLaws
 pub mod CutLaws
 pub mod AskLaws

@@ -32,8 +32,10 @@ use Rattle.questions.proofs.TableLaws.{table_facts, labelled}
 use Rattle.write_strls.proofs.RecordLaws.{record_size_lem, record_facts}
 use Rattle.write_labels.proofs.BlockLaws.{block_read}
 use Rattle.sources.proofs.SourceLaws.{right}
-use Rattle.long_list.specs.declared.Listed.{Listed}
-use Rattle.long_list.specs.Lists.{list_code, Lists}
+use Rattle.std.specs.Prelude.{Result}
+use Rattle.long_list.specs.declared.Untold.{Untold}
+use Rattle.long_list.specs.Lists.{list_code, told_code, told_count, Lists}
+use Rattle.demands.proofs.RefusalLaws.{same_told}
 use Rattle.long_list.specs.Longs.{longs_from, longs_of}
 use Rattle.set_list.specs.Sets.{entries_to, entry_numbers, sets_from, sets_of, name_place, table_place}
 use Rattle.sort_order.specs.Sorted.{sorted_of}
@@ -48,18 +50,18 @@ list_number zero true b = omega arith
 list_number zero false b = omega arith
 list_number (suc v) t b = omega arith
 
-module _ (f t d w : List ℕ) (r : Listed) (L : Lists f t d w r) where
+module _ (f t d w : List ℕ) (r : Result ℕ Untold) (L : Lists f t d w r) where
   -- there is room
   abbrev fits : Bool
   fits = leb (length t) (length d)
 
-  code_with : (v : ℕ) (b : Bool) → verdict f ≡ v → fits ≡ b → r.code ≡ code_by v true b
+  code_with : (v : ℕ) (b : Bool) → verdict f ≡ v → fits ≡ b → told_code r ≡ code_by v true b
   code_with v b p q = L.code ∙ (λ i. code_by (p i) true (q i))
 
   pub list_given : ListGiven f t d w r
   list_given =
       let v = verdict_number f in
-      let c : r.code ≡ code_by (verdict f) true fits = L.code in
+      let c : told_code r ≡ code_by (verdict f) true fits = L.code in
       record {
         number = rw c (list_number (verdict f) fits v);
         judged = λ n. c ∙ code_judged (verdict f) true fits n;
@@ -80,12 +82,16 @@ module _ (f t d w : List ℕ) (r : Listed) (L : Lists f t d w r) where
 -- ---- the same for files of one verdict and one list
 
 module _ {f g t u : List ℕ} (v : verdict g ≡ verdict f) (e : u ≡ t) where
-  same_lists : (d x w : List ℕ) (a b : Listed) → Lists f t d x a → Lists g u d w b → (b ≡ a) × (w ≡ x)
+  same_lists : (d x w : List ℕ) (a b : Result ℕ Untold) → Lists f t d x a → Lists g u d w b → (b ≡ a) × (w ≡ x)
   same_lists d x w a b A B =
+      let some : list_code g u (length d) ≡ 14 → 0 < told_count b = λ q.
+      (let n = code_14 (verdict g) true (leb (length u) (length d)) (verdict_number g) q in
+      let k : told_count b ≡ length u = B.count ∙ rw (eq-eqb (verdict g) 0 n.0) in
+      omega (arith, leb-false (length u) (length d) n.2, k)) in
       let by : list_code g u (length d) ≡ list_code f t (length d) = λ i. also (v i) (unless (leb (length (e i)) (length d)) 14) in
       let code = B.code ∙ by ∙ sym A.code in
       let count = B.count ∙ (λ i. cond (eqb (v i) 0) (length (e i)) 0) ∙ sym A.count in (
-        λ i. record { code = code i; count = count i },
+        same_told b a code count (λ q. some (sym B.code ∙ q)),
         B.out ∙ (λ i. cond (eqb (by i) 0) (e i ++ drop (length (e i)) d) d) ∙ sym A.out,
       )
 

@@ -14,8 +14,11 @@ use Rattle.format.specs.Edition.{Release, edition, is_release, release_by, order
 use Rattle.format.specs.Dta.{Dataset, verdict, dataset_of, written, holds}
 use Rattle.format.proofs.Good.{and_left, and_right}
 use Rattle.format.proofs.EditionLaws.{number_is, number_read}
-use Rattle.rewriting.specs.declared.Rewritten.{Rewritten}
-use Rattle.rewriting.specs.Rewriting.{offered, edition_to, order_to, held, rewritten, rewrite_code, output_of, length_of, Rewrites}
+use Rattle.std.specs.Prelude.{Result}
+use Rattle.refusal.specs.declared.Refusal.{Refusal}
+use Rattle.refusal.specs.Refusals.{code_of}
+use Rattle.demands.proofs.RefusalLaws.{same_result}
+use Rattle.rewriting.specs.Rewriting.{offered, edition_to, order_to, held, rewritten, rewrite_code, output_of, length_of, len_of, Rewrites}
 use Rattle.demands.specs.Demands.{RewriteGiven}
 use Rattle.demands.proofs.VerdictLaws.{verdict_number}
 
@@ -52,34 +55,34 @@ code_0 zero true false q = absurd (omega arith)
 code_0 zero false t q = absurd (omega arith)
 code_0 (suc v) h t q = absurd (omega arith)
 
-module _ (f : List ℕ) (e o : ℕ) (d w : List ℕ) (r : Rewritten) (R : Rewrites f e o d w r) where
+module _ (f : List ℕ) (e o : ℕ) (d w : List ℕ) (r : Result ℕ Refusal) (R : Rewrites f e o d w r) where
   -- there is room
   abbrev fits : Bool
   fits = leb (length (rewritten f e o)) (length d)
 
-  code_is : r.code ≡ code_by (verdict f) (held f e o) fits
+  code_is : code_of r ≡ code_by (verdict f) (held f e o) fits
   unfolding rewrite_code
   code_is = R.code
 
-  code_with : (v : ℕ) (h t : Bool) → verdict f ≡ v → held f e o ≡ h → fits ≡ t → r.code ≡ code_by v h t
+  code_with : (v : ℕ) (h t : Bool) → verdict f ≡ v → held f e o ≡ h → fits ≡ t → code_of r ≡ code_by v h t
   code_with v h t p q s = code_is ∙ (λ i. code_by (p i) (q i) (s i))
 
-  refused_out : (r.code ≡ 0 → ⊥) → (w ≡ d) × (r.len ≡ 0)
+  refused_out : (code_of r ≡ 0 → ⊥) → (w ≡ d) × (len_of r ≡ 0)
   unfolding output_of length_of
   refused_out n =
       let z : eqb (rewrite_code f e o (length d)) 0 ≡ false = ne_eqb (rewrite_code f e o (length d)) 0 (λ q. n (R.code ∙ q)) in
       (R.out ∙ rw z, R.len ∙ rw z)
 
-  done_len : r.code ≡ 0 → r.len ≡ length (rewritten f e o)
+  done_len : code_of r ≡ 0 → len_of r ≡ length (rewritten f e o)
   unfolding length_of
   done_len q = R.len ∙ rw (eq-eqb (rewrite_code f e o (length d)) 0 (sym R.code ∙ q))
 
-  done_out : r.code ≡ 0 → w ≡ rewritten f e o ++ drop (length (rewritten f e o)) d
+  done_out : code_of r ≡ 0 → w ≡ rewritten f e o ++ drop (length (rewritten f e o)) d
   unfolding output_of
   done_out q = R.out ∙ rw (eq-eqb (rewrite_code f e o (length d)) 0 (sym R.code ∙ q))
 
   -- done, the output begins with the result
-  pub done_take : r.code ≡ 0 → take r.len w ≡ rewritten f e o
+  pub done_take : code_of r ≡ 0 → take (len_of r) w ≡ rewritten f e o
   done_take q =
       (λ i. take (done_len q i) (done_out q i)) ∙ take-append_seam (rewritten f e o) (drop (length (rewritten f e o)) d)
 
@@ -142,8 +145,8 @@ module _ (f g : List ℕ) (v : verdict g ≡ verdict f) (d : dataset_of g ≡ da
   unfolding output_of
   same_output b = λ i. cond (eqb (same_code (length b) i) 0) (same_rewritten i ++ drop (length (same_rewritten i)) b) b
 
-  pub same_rewrite : (b x w : List ℕ) (r s : Rewritten) → Rewrites f e o b x r → Rewrites g e o b w s → (s ≡ r) × (w ≡ x)
+  pub same_rewrite : (b x w : List ℕ) (r s : Result ℕ Refusal) → Rewrites f e o b x r → Rewrites g e o b w s → (s ≡ r) × (w ≡ x)
   same_rewrite b x w r s R S =
       let code = S.code ∙ same_code (length b) ∙ sym R.code in
       let len = S.len ∙ same_length (length b) ∙ sym R.len in
-      (λ i. record { code = code i; len = len i }, S.out ∙ same_output b ∙ sym R.out)
+      (same_result s r code len, S.out ∙ same_output b ∙ sym R.out)

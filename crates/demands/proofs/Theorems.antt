@@ -5,13 +5,18 @@ use mathlib.Core.List.{List, [], ◌++◌}
 use mathlib.Core.Bool.{true, false, ◌&&◌, true≢false}
 use lib.ListN.{length, get_or, take, drop}
 use lib.Dec.{leb}
+use Rattle.format.specs.Slot.{Bytes}
 use Rattle.format.specs.Number.{Order}
 use Rattle.format.specs.Edition.{Release, edition, release_by, AsWide, order_mark}
 use Rattle.format.specs.Dta.{Dataset, Extras, Layout, verdict, release_of, edition_of, order_of, contents, dataset_of, length_max, dead_in, written, holds, all_types, all_shorter, block_names}
 use Rattle.format.proofs.Theorems.{sound, complete, round_trip, SameButDead, dead_bytes, dead_places}
 use Rattle.format.proofs.FileLaws.{itself, layout_is, written_length}
 use Rattle.format.proofs.HoldsLaws.{holds_wide}
-use Rattle.checking.specs.declared.Checked.{Checked}
+use Rattle.std.specs.Prelude.{Result, Ok, Err, IsOkAnd}
+use Rattle.refusal.specs.declared.Refusal.{Refusal}
+use Rattle.refusal.specs.Refusals.{number_of, code_of}
+use Rattle.section.proofs.StepLaws.{some_number}
+use Rattle.checking.specs.declared.Layout as Checking
 use Rattle.checking.specs.Checks.{Checks, layout_by}
 use Rattle.questions.specs.Ask.{Question, ask_long, ask_words, Answer, refused, shown, in_range, answer_of}
 use Rattle.questions.specs.Fact.{fact_of, bytes_of}
@@ -21,10 +26,8 @@ use Rattle.asking.specs.declared.Answer as Told
 use Rattle.asking.specs.Asking.{question_by, told_by, answer_by, Asked}
 use Rattle.asking.proofs.AskLaws.{asked_means}
 use Rattle.view.specs.Words.{words_of}
-use Rattle.coded.specs.declared.Run.{Run}
-use Rattle.coded.specs.Coded.{numbers_of, told, Tells}
-use Rattle.rewriting.specs.declared.Rewritten.{Rewritten}
-use Rattle.rewriting.specs.Rewriting.{offered, edition_to, order_to, rewritten, Rewrites}
+use Rattle.coded.specs.Coded.{numbers_of, told, stored, Tells}
+use Rattle.rewriting.specs.Rewriting.{offered, edition_to, order_to, rewritten, len_of, Rewrites}
 use Rattle.demands.specs.Demands.{Demand1, WellFormed, Accepted, Says, FactGiven, WordsGiven, ReadsBack, facts_to, Demand2, DifferInDead, SameAnswer, SameView, Demand3}
 use Rattle.demands.proofs.CheckLaws.{check_given}
 use Rattle.demands.proofs.CutLaws.{cut_given}
@@ -39,16 +42,21 @@ demand_1 = record { checked = check_given; asked = ask_given; told = told_given;
 
 -- ---- 2
 
-module _ (f : List ℕ) (c : Checked) (A : Accepted f c) where
+-- an answer for a file that is right is a layout
+taken : {g : List ℕ} (b : Result Checking.Layout Refusal) → Checks g b → Bytes g → verdict g ≡ 0 → IsOkAnd b (Accepted g)
+taken (Ok l) C u z = record { is_file = u; answer = C }
+taken (Err e) C u z = some_number e (C.code ∙ z)
+
+module _ (f : List ℕ) (c : Checking.Layout) (A : Accepted f c) where
   ok : verdict f ≡ 0
-  ok = sym A.answer.code ∙ A.accepted
+  ok = sym A.answer.code
 
   well_formed : WellFormed f (release_of f) (order_of f) (dataset_of f) (contents f).1
   well_formed = let s = sound f A.is_file ok in record { short = s.short; rules = s.right; bytes = s.fits; whole = s.whole }
 
   -- the answer over the file's own layout
   abbrev own : Question → Answer
-  own q = answer_of f (layout_by c.layout) q
+  own q = answer_of f (layout_by c) q
 
   fact : (q : Question) → own q ≡ fact_of (edition_of f) (order_of f) (contents f) q
   fact q = ap (λ (l : Layout). answer_of f l q) A.answer.layout ∙ own_answer f A.is_file ok q
@@ -56,21 +64,21 @@ module _ (f : List ℕ) (c : Checked) (A : Accepted f c) where
   bytes : (q : Question) → shown f (own q) ≡ bytes_of (edition_of f) (order_of f) (contents f) q
   bytes q = ap (λ (l : Layout). shown f (answer_of f l q)) A.answer.layout ∙ own_bytes f A.is_file ok q
 
-  never : (q : Question) → in_range (layout_by c.layout) q ≡ true → (n : ℕ) → own q ≡ refused n → ⊥
+  never : (q : Question) → in_range (layout_by c) q ≡ true → (n : ℕ) → own q ≡ refused n → ⊥
   never q h n e =
       (own_some f A.is_file ok q (subst (λ (l : Layout). in_range l q ≡ true) A.answer.layout h)).never n
       (subst (λ (l : Layout). answer_of f l q ≡ refused n) A.answer.layout e)
 
-  facts : (q : Code.Question) (r : Told.Answer) → Asked f (layout_by c.layout) q r → FactGiven f (layout_by c.layout) q r
+  facts : (q : Code.Question) (r : Told.Answer) → Asked f (layout_by c) q r → FactGiven f (layout_by c) q r
   facts q r h =
       record {
         fact = h ∙ ap told_by (fact (question_by q));
         bytes = bytes (question_by q);
-        answered = λ i n e. never (question_by q) i n (sym (asked_means f (layout_by c.layout) q) ∙ ap answer_by (sym h ∙ e));
+        answered = λ i n e. never (question_by q) i (number_of n) (sym (asked_means f (layout_by c) q) ∙ ap answer_by (sym h ∙ e));
       }
 
-  words : (i j : ℕ) (lent : List ℕ) → in_range (layout_by c.layout) (ask_words i j lent) ≡ true
-      → WordsGiven (dataset_of f) i j lent (words_of f lent (layout_by c.layout) i j)
+  words : (i j : ℕ) (lent : List ℕ) → in_range (layout_by c) (ask_words i j lent) ≡ true
+      → WordsGiven (dataset_of f) i j lent (words_of f lent (layout_by c) i j)
   unfolding bytes_of
   words i j lent h =
       let itself-is = A.answer.layout ∙ layout_is (release_of f) (order_of f) f (contents f) (itself f ok) in
@@ -93,7 +101,7 @@ module _ (f : List ℕ) (c : Checked) (A : Accepted f c) where
       ≡ (all_types (edition r).tagged (dataset_of f).var_types && leb (length (written (edition r) o (dataset_of f))) length_max)
   as_wide r o w = holds_wide f A.is_file ok o r w ∙ ap (λ (n : ℕ). all_types (edition r).tagged (dataset_of f).var_types && leb n length_max) (sym (written_length r o (dataset_of f)))
 
-  facts_told : (q : ℕ → Question) (n : ℕ) → told f (layout_by c.layout) q n ≡ facts_to f q n
+  facts_told : (q : ℕ → Question) (n : ℕ) → told f (layout_by c) q n ≡ facts_to f q n
   unfolding told
   facts_told q zero = refl
   facts_told q (suc n) = ap (λ (t : List ℕ). t ++ numbers_of (own (q n))) (facts_told q n) ∙ ap (λ (a : Answer). facts_to f q n ++ numbers_of a) (fact (q n))
@@ -102,19 +110,19 @@ module _ (f : List ℕ) (c : Checked) (A : Accepted f c) where
   reads_back e o h k =
       let t = round_trip f (release_by e) (order_to o) A.is_file ok k in
       record {
-        accepted = λ b C. record { is_file = t.bytes; answer = C; accepted = C.code ∙ t.accepted };
+        accepted = λ b C. taken b C t.bytes t.accepted;
         release = ap (λ (r : Release). (edition r).number) t.release ∙ offered_edition e o h;
         order = ap order_mark t.order ∙ offered_order e o h;
         dataset = t.dataset;
       }
 
-  back : (e o : ℕ) → offered e o ≡ true → holds (edition_to e) (order_to o) (dataset_of f) ≡ true → (d w : List ℕ) (r : Rewritten) → Rewrites f e o d w r
-      → length (rewritten f e o) ≤ length d → (r.code ≡ 0) × (ReadsBack f e o (take r.len w))
+  back : (e o : ℕ) → offered e o ≡ true → holds (edition_to e) (order_to o) (dataset_of f) ≡ true → (d w : List ℕ) (r : Result ℕ Refusal) → Rewrites f e o d w r
+      → length (rewritten f e o) ≤ length d → (code_of r ≡ 0) × (ReadsBack f e o (take (len_of r) w))
   back e o h k d w r R b =
-      let z : r.code ≡ 0 = (rewrite_given f e o d w r R).room.1 (ok, rw (h, k) refl, b) in
+      let z : code_of r ≡ 0 = (rewrite_given f e o d w r R).room.1 (ok, rw (h, k) refl, b) in
       (z, subst (λ (g : List ℕ). ReadsBack f e o g) (sym (done_take f e o d w r R z)) (reads_back e o h k))
 
-says : (f : List ℕ) (r : Release) (o : Order) (d : Dataset) (x : Extras) → WellFormed f r o d x → (c : Checked) → Checks f c → (c.code ≡ 0) × (Says f r o d x)
+says : (f : List ℕ) (r : Release) (o : Order) (d : Dataset) (x : Extras) → WellFormed f r o d x → (c : Result Checking.Layout Refusal) → Checks f c → (code_of c ≡ 0) × (Says f r o d x)
 says f r o d x W c C =
     let a = complete r o f d x W.short W.rules W.bytes W.whole in
     (C.code ∙ a.accepted, record { release = a.release; order = a.order; dataset = a.dataset; extras = a.extras })
@@ -130,7 +138,7 @@ demand_2 =
       words = words;
       exact = label_exact;
       found_by = λ f c A. label_found f A.is_file (ok f c A) _;
-      ran = λ f c A i j q n d w r T. T.out ∙ ap (λ (t : List ℕ). t ++ drop (r.count * 4) d) (facts_told f c A q r.count);
+      ran = λ f c A i j q n d w r T. T.out ∙ ap (λ (t : List ℕ). t ++ drop (stored r * 4) d) (facts_told f c A q (stored r));
       listed = λ f c A. lists_given f A.is_file (ok f c A);
       offers = all_offered;
       can_hold = can_hold;
@@ -140,7 +148,7 @@ demand_2 =
 
 -- ---- 3
 
-module _ (f g : List ℕ) (c : Checked) (A : Accepted f c) (D : DifferInDead f g) where
+module _ (f g : List ℕ) (c : Checking.Layout) (A : Accepted f c) (D : DifferInDead f g) where
   -- the grammar's dead places are document 01's
   same : (i : ℕ) → i < length f → dead_in f i ≡ false → get_or g i 0 ≡ get_or f i 0
   same i b n = D.same i b (λ p. true≢false (sym ((dead_places f i A.is_file (ok f c A)).from p) ∙ n))
@@ -148,27 +156,24 @@ module _ (f g : List ℕ) (c : Checked) (A : Accepted f c) (D : DifferInDead f g
   alike : SameButDead f g
   alike = dead_bytes f g A.is_file (ok f c A) D.long same
 
-  same_check : (b : Checked) → Checks g b → b ≡ c
-  same_check b B =
-      let code : b.code ≡ c.code = B.code ∙ alike.accepted ∙ sym A.accepted in
-      let layout : layout_by b.layout ≡ layout_by c.layout = B.layout ∙ alike.layout ∙ sym A.answer.layout in
-      λ i. record {
-        code = code i;
-        layout = record { edition = (layout i).release; order = (layout i).order; k = (layout i).variables; n = (layout i).rows; places = (layout i).places };
-      }
+  same_check : (b : Result Checking.Layout Refusal) → Checks g b → b ≡ Ok c
+  same_check (Ok m) B =
+      let e : layout_by m ≡ layout_by c = B.layout ∙ alike.layout ∙ sym A.answer.layout in
+      λ i. Ok (record { edition = (e i).release; order = (e i).order; k = (e i).variables; n = (e i).rows; places = (e i).places })
+  same_check (Err x) B = absurd (some_number x (B.code ∙ alike.accepted))
 
-  same_asked : (q : Question) → answer_of g (layout_by c.layout) q ≡ answer_of f (layout_by c.layout) q
+  same_asked : (q : Question) → answer_of g (layout_by c) q ≡ answer_of f (layout_by c) q
   same_asked q =
       subst (λ (l : Layout). answer_of g l q ≡ answer_of f l q) (sym A.answer.layout) (same_answer f A.is_file (ok f c A) g D.long same q)
 
-  same_bytes : (q : Question) → shown g (answer_of g (layout_by c.layout) q) ≡ shown f (answer_of f (layout_by c.layout) q)
+  same_bytes : (q : Question) → shown g (answer_of g (layout_by c) q) ≡ shown f (answer_of f (layout_by c) q)
   same_bytes q =
       subst (λ (l : Layout). shown g (answer_of g l q) ≡ shown f (answer_of f l q)) (sym A.answer.layout) (same_shown f A.is_file (ok f c A) g D.long same q)
 
-same_told : {R : Type 0} (by : Answer → R) (f g : List ℕ) (c : Checked) → Accepted f c → DifferInDead f g → (q : Question) → SameAnswer by f g (layout_by c.layout) q
+same_told : {R : Type 0} (by : Answer → R) (f g : List ℕ) (c : Checking.Layout) → Accepted f c → DifferInDead f g → (q : Question) → SameAnswer by f g (layout_by c) q
 same_told by f g c A D q = record { answer = λ r s x y. y ∙ ap by (same_asked f g c A D q) ∙ sym x; bytes = same_bytes f g c A D q }
 
-same_view : (f g : List ℕ) (c : Checked) → Accepted f c → DifferInDead f g → SameView f g (layout_by c.layout)
+same_view : (f g : List ℕ) (c : Checking.Layout) → Accepted f c → DifferInDead f g → SameView f g (layout_by c)
 same_view f g c A D =
     record {
       answer = λ q a b x y. y ∙ ap told_by (same_asked f g c A D (question_by q)) ∙ sym x;
@@ -177,15 +182,15 @@ same_view f g c A D =
       words = λ t i j. same_bytes f g c A D (ask_words i j t);
     }
 
-same_run : (f g : List ℕ) (c : Checked) → Accepted f c → DifferInDead f g → (i j : ℕ) (q : ℕ → Question) (n : ℕ) (d v w : List ℕ) (a b : Run)
-    → Tells f (layout_by c.layout) i j q n d v a → Tells g (layout_by c.layout) i j q n d w b → (b ≡ a) × (w ≡ v)
+same_run : (f g : List ℕ) (c : Checking.Layout) → Accepted f c → DifferInDead f g → (i j : ℕ) (q : ℕ → Question) (n : ℕ) (d v w : List ℕ) (a b : Result ℕ Refusal)
+    → Tells f (layout_by c) i j q n d v a → Tells g (layout_by c) i j q n d w b → (b ≡ a) × (w ≡ v)
 same_run f g c A D i j q n d v w a b T U =
-    let l = layout_by c.layout in
+    let l = layout_by c in
     let e : b ≡ a = U.answer ∙ sym T.answer in (
       e,
       U.out
-          ∙ ap (λ (t : List ℕ). t ++ drop (b.count * 4) d) (told_same f g l q (λ m. same_asked f g c A D (q m)) b.count)
-          ∙ ap (λ (x : Run). told f l q x.count ++ drop (x.count * 4) d) e
+          ∙ ap (λ (t : List ℕ). t ++ drop (stored b * 4) d) (told_same f g l q (λ m. same_asked f g c A D (q m)) (stored b))
+          ∙ ap (λ (x : Result ℕ Refusal). told f l q (stored x) ++ drop (stored x * 4) d) e
           ∙ sym T.out,
     )
 

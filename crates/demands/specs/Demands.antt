@@ -9,7 +9,10 @@
 -- and `words_across` promise, of the answers to q 0, q 1, .. from cell i, j on. `Lists f t d w r` is what `long_list`, `set_list` and `sort_order` promise: r is the answer for the file f, of which the
 -- numbers t are told, `longs_of f`, `sets_of f` or `sorted_of f`, into a slice that held d and then holds w. That each call ends is part of each
 -- function's proof, as is that it needs nothing of the file, the layout and the numbers that it is given.
-use Rattle.std.specs.Prelude.{◌≡◌, ℕ, zero, suc, ◌+◌, ◌*◌, ◌≤◌, ◌<◌, List, [], ◌∷◌, ◌++◌, map, ◌⊎◌, true, false, ◌&&◌, length, get_or, take, drop, leb, ℤ}
+use Rattle.std.specs.Prelude.{◌≡◌, ℕ, zero, suc, ◌+◌, ◌*◌, ◌≤◌, ◌<◌, List, [], ◌∷◌, ◌++◌, map, ◌⊎◌, true, false, ◌&&◌, length, get_or, take, drop, leb, ℤ, Result, Ok, IfOk, IsOkAnd}
+use Rattle.refusal.specs.declared.Refusal.{Refusal}
+use Rattle.refusal.specs.declared.Refusal.TheVariants.{NotThere, NotReadable}
+use Rattle.refusal.specs.Refusals.{code_of}
 use Rattle.format.specs.Slot.{Fits, Bytes}
 use Rattle.format.specs.Number.{Order}
 use Rattle.format.specs.Edition.{Release, edition, AsWide, order_mark}
@@ -18,15 +21,15 @@ use Rattle.format.specs.Labels.{Table, LabelBlock}
 use Rattle.format.specs.Variables.{nonempty}
 use Rattle.format.specs.Cells.{signed_by, seeks, key_of}
 use Rattle.format.specs.Search.{found}
-use Rattle.format.specs.Dta.{Dataset, Extras, Layout, file, known, verdict, release_of, edition_of, order_of, contents, dataset_of, no_layout, length_max, written, holds, all_types, all_shorter, block_names}
+use Rattle.format.specs.Dta.{Dataset, Extras, Layout, file, known, verdict, release_of, edition_of, order_of, contents, dataset_of, layout_of, no_layout, length_max, written, holds, all_types, all_shorter, block_names}
 use Rattle.format.specs.Dead.{DeadPlace}
-use Rattle.checking.specs.declared.Checked.{Checked}
+use Rattle.checking.specs.declared.Layout as Checking
 use Rattle.checking.specs.Checks.{Checks, layout_by}
 use Rattle.questions.specs.Readings.{Try, none, got, bind}
 use Rattle.questions.specs.Ask.{Question, ask_cell, ask_words, Answer, refused, release_in, order_in, in_range, answer_in, answer_of, slice, shown}
 use Rattle.questions.specs.Fact.{cell_says, cell_asked, type_asked, set_asked, label_at, slot_fact, fact_of, bytes_of}
-use Rattle.long_list.specs.declared.Listed.{Listed}
-use Rattle.long_list.specs.Lists.{Lists}
+use Rattle.long_list.specs.declared.Untold.{Untold}
+use Rattle.long_list.specs.Lists.{told_code, told_count, Lists}
 use Rattle.long_list.specs.Longs.{longs_of}
 use Rattle.set_list.specs.Sets.{sets_of}
 use Rattle.sort_order.specs.Sorted.{sorted_of}
@@ -34,12 +37,10 @@ use Rattle.asking.specs.declared.Question as Code
 use Rattle.asking.specs.declared.Answer as Told
 use Rattle.asking.specs.declared.Answer.TheVariants as A
 use Rattle.asking.specs.Asking.{question_by, told_by, Asked}
-use Rattle.coded.specs.declared.Run.{Run}
-use Rattle.coded.specs.Coded.{numbers_of, Tells}
+use Rattle.coded.specs.Coded.{numbers_of, stored, Tells}
 use Rattle.parts.specs.Parts.{text_of, long_of}
 use Rattle.view.specs.Words.{words_of}
-use Rattle.rewriting.specs.declared.Rewritten.{Rewritten}
-use Rattle.rewriting.specs.Rewriting.{edition_to, order_to, offered, held, rewritten, Rewrites}
+use Rattle.rewriting.specs.Rewriting.{edition_to, order_to, offered, held, rewritten, len_of, Rewrites}
 use Rattle.demands.specs.Logic.{Iff}
 use Rattle.demands.specs.Cuts.{CutGiven}
 use Rattle.demands.specs.Reasons.{TypeUnknown, TextBroken, SortBroken, LengthOfNone, MapWrong, LinkBroken, TableBroken, BytesLeft}
@@ -50,39 +51,39 @@ use Rattle.demands.specs.Comes.{CutShort, TagDiffers}
 -- there. A refused rewrite leaves the output as it came.
 
 -- the answer r of checking f
-pub record CheckGiven (f : List ℕ) (r : Checked) : Type 1 where
+pub record CheckGiven (f : List ℕ) (r : Result Checking.Layout Refusal) : Type 1 where
   -- 0, or one of the numbers 1 to 13
-  pub number : r.code ≤ 13
+  pub number : code_of r ≤ 13
   -- 1: the file is over the length bound
-  pub too_long : Iff (r.code ≡ 1) (length_max < length f)
+  pub too_long : Iff (code_of r ≡ 1) (length_max < length f)
   -- 2: it is not, and it begins as no edition does
-  pub unknown : Iff (r.code ≡ 2) ((length f ≤ length_max) × (known f ≡ false))
+  pub unknown : Iff (code_of r ≡ 2) ((length f ≤ length_max) × (known f ≡ false))
   -- else 0 or 3 to 13: the first refusal of the edition's grammar, in file order
-  pub first : length f ≤ length_max → known f ≡ true → r.code ≡ (file (edition_of f) (order_of f)).judge f 0
+  pub first : length f ≤ length_max → known f ≡ true → code_of r ≡ (file (edition_of f) (order_of f)).judge f 0
   -- 3: a part or tag needs more bytes than remain
-  pub cut_short : Iff (r.code ≡ 3) (CutShort (edition_of f) (order_of f) f)
+  pub cut_short : Iff (code_of r ≡ 3) (CutShort (edition_of f) (order_of f) f)
   -- 4: a tag differs
-  pub tag_differs : Iff (r.code ≡ 4) (TagDiffers (edition_of f) (order_of f) f)
+  pub tag_differs : Iff (code_of r ≡ 4) (TagDiffers (edition_of f) (order_of f) f)
   -- 5: byte order, file type, K, N, dataset label or stamp breaks its rule
-  pub header_broken : Iff (r.code ≡ 5) (HeaderBroken (edition_of f) (order_of f) f)
+  pub header_broken : Iff (code_of r ≡ 5) (HeaderBroken (edition_of f) (order_of f) f)
   -- 6: a type code is unknown
-  pub type_unknown : Iff (r.code ≡ 6) (TypeUnknown (edition_of f) (order_of f) f)
+  pub type_unknown : Iff (code_of r ≡ 6) (TypeUnknown (edition_of f) (order_of f) f)
   -- 7: a text field after the header is unended, or a name empty
-  pub text_broken : Iff (r.code ≡ 7) (TextBroken (edition_of f) (order_of f) f)
+  pub text_broken : Iff (code_of r ≡ 7) (TextBroken (edition_of f) (order_of f) f)
   -- 8: the sort list breaks its rule
-  pub sort_broken : Iff (r.code ≡ 8) (SortBroken (edition_of f) (order_of f) f)
+  pub sort_broken : Iff (code_of r ≡ 8) (SortBroken (edition_of f) (order_of f) f)
   -- 9: an expansion block of type 0 has a length
-  pub length_of_none : Iff (r.code ≡ 9) (LengthOfNone (edition_of f) (order_of f) f)
+  pub length_of_none : Iff (code_of r ≡ 9) (LengthOfNone (edition_of f) (order_of f) f)
   -- 10: a map position is wrong
-  pub map_wrong : Iff (r.code ≡ 10) (MapWrong (edition_of f) (order_of f) f)
+  pub map_wrong : Iff (code_of r ≡ 10) (MapWrong (edition_of f) (order_of f) f)
   -- 11: a strL reference or record breaks its rule
-  pub link_broken : Iff (r.code ≡ 11) (LinkBroken (edition_of f) (order_of f) f)
+  pub link_broken : Iff (code_of r ≡ 11) (LinkBroken (edition_of f) (order_of f) f)
   -- 12: a label table breaks its rule
-  pub table_broken : Iff (r.code ≡ 12) (TableBroken (edition_of f) (order_of f) f)
+  pub table_broken : Iff (code_of r ≡ 12) (TableBroken (edition_of f) (order_of f) f)
   -- 13: bytes stand after </stata_dta>
-  pub bytes_left : Iff (r.code ≡ 13) (BytesLeft (edition_of f) (order_of f) f)
-  -- a refusal has a layout of zeros
-  pub bare : (r.code ≡ 0 → ⊥) → layout_by r.layout ≡ no_layout
+  pub bytes_left : Iff (code_of r ≡ 13) (BytesLeft (edition_of f) (order_of f) f)
+  -- a refusal gives no layout, and the file's own is all zeros
+  pub bare : (code_of r ≡ 0 → ⊥) → (IfOk r (λ l. ⊥)) × (layout_of f ≡ no_layout)
 
 -- what is read for the question q, by the layout's edition and byte order: none where a byte that is needed lies outside the file, or where
 -- what stands there has no meaning
@@ -92,11 +93,11 @@ read_for f l q = bind (release_in l.release) λ r. bind (order_in l.order) λ o.
 -- the answer r to the question q over f and l
 pub record AskGiven (f : List ℕ) (l : Layout) (q : Code.Question) (r : Told.Answer) : Type 0 where
   -- 16: the variable or the observation that is asked for is not in 1..K or 1..N of the layout
-  pub out_of_range : Iff (r ≡ A.Refused 16) (in_range l (question_by q) ≡ false)
+  pub out_of_range : Iff (r ≡ A.Refused NotThere) (in_range l (question_by q) ≡ false)
   -- 17: it is, and what is asked for can't be read
-  pub unread : Iff (r ≡ A.Refused 17) ((in_range l (question_by q) ≡ true) × (read_for f l (question_by q) ≡ none))
-  -- no refusal has another number
-  pub number : (c : ℕ) → r ≡ A.Refused c → (c ≡ 16) ⊎ (c ≡ 17)
+  pub unread : Iff (r ≡ A.Refused NotReadable) ((in_range l (question_by q) ≡ true) × (read_for f l (question_by q) ≡ none))
+  -- there is no other refusal
+  pub number : (c : Refusal) → r ≡ A.Refused c → (c ≡ NotThere) ⊎ (c ≡ NotReadable)
   -- else it is what is read
   pub answer : (a : Answer) → in_range l (question_by q) ≡ true → read_for f l (question_by q) ≡ got a → r ≡ told_by a
 
@@ -107,55 +108,55 @@ pub record ToldGiven {R : Type 0} (by : Answer → R) (f : List ℕ) (l : Layout
   pub answer : (a : Answer) → in_range l q ≡ true → read_for f l q ≡ got a → (r ≡ by a) × ((c : ℕ) → a ≡ refused c → ⊥)
 
 -- the answer r of rewriting f to the edition e and the byte order o
-pub record RewriteGiven (f : List ℕ) (e o : ℕ) (d w : List ℕ) (r : Rewritten) : Type 0 where
+pub record RewriteGiven (f : List ℕ) (e o : ℕ) (d w : List ℕ) (r : Result ℕ Refusal) : Type 0 where
   -- one of the numbers 0 to 15
-  pub number : r.code ≤ 15
+  pub number : code_of r ≤ 15
   -- 1 to 13: as the file is judged
-  pub judged : (verdict f ≡ 0 → ⊥) → r.code ≡ verdict f
+  pub judged : (verdict f ≡ 0 → ⊥) → code_of r ≡ verdict f
   -- 15: it is accepted, and the target is not offered or can't hold the dataset
-  pub not_held : Iff (r.code ≡ 15) ((verdict f ≡ 0) × (held f e o ≡ false))
+  pub not_held : Iff (code_of r ≡ 15) ((verdict f ≡ 0) × (held f e o ≡ false))
   -- 14: it is held, and the output is shorter than the result
-  pub no_room : Iff (r.code ≡ 14) ((verdict f ≡ 0) × (held f e o ≡ true) × (length d < length (rewritten f e o)))
+  pub no_room : Iff (code_of r ≡ 14) ((verdict f ≡ 0) × (held f e o ≡ true) × (length d < length (rewritten f e o)))
   -- 0: it is held, and there is room
-  pub room : Iff (r.code ≡ 0) ((verdict f ≡ 0) × (held f e o ≡ true) × (length (rewritten f e o) ≤ length d))
+  pub room : Iff (code_of r ≡ 0) ((verdict f ≡ 0) × (held f e o ≡ true) × (length (rewritten f e o) ≤ length d))
   -- refused, the output is as it came; done, it is the result and then what stood there
-  pub untouched : (r.code ≡ 0 → ⊥) → (w ≡ d) × (r.len ≡ 0)
-  pub done : r.code ≡ 0 → (w ≡ rewritten f e o ++ drop r.len d) × (r.len ≡ length (rewritten f e o))
+  pub untouched : (code_of r ≡ 0 → ⊥) → (w ≡ d) × (len_of r ≡ 0)
+  pub done : code_of r ≡ 0 → (w ≡ rewritten f e o ++ drop (len_of r) d) × (len_of r ≡ length (rewritten f e o))
 
 -- the answer r of a list of the numbers t about f
-pub record ListGiven (f t d w : List ℕ) (r : Listed) : Type 0 where
+pub record ListGiven (f t d w : List ℕ) (r : Result ℕ Untold) : Type 0 where
   -- one of the numbers 0 to 14
-  pub number : r.code ≤ 14
+  pub number : told_code r ≤ 14
   -- 1 to 13: as the file is judged
-  pub judged : (verdict f ≡ 0 → ⊥) → r.code ≡ verdict f
+  pub judged : (verdict f ≡ 0 → ⊥) → told_code r ≡ verdict f
   -- 14: it is accepted, and the slice is shorter than the list
-  pub no_room : Iff (r.code ≡ 14) ((verdict f ≡ 0) × (length d < length t))
+  pub no_room : Iff (told_code r ≡ 14) ((verdict f ≡ 0) × (length d < length t))
   -- 0: it is accepted, and there is room
-  pub room : Iff (r.code ≡ 0) ((verdict f ≡ 0) × (length t ≤ length d))
+  pub room : Iff (told_code r ≡ 0) ((verdict f ≡ 0) × (length t ≤ length d))
   -- refused, the slice is as it came; done, it is the list and then what stood there
-  pub untouched : (r.code ≡ 0 → ⊥) → w ≡ d
-  pub done : r.code ≡ 0 → w ≡ t ++ drop (length t) d
+  pub untouched : (told_code r ≡ 0 → ⊥) → w ≡ d
+  pub done : told_code r ≡ 0 → w ≡ t ++ drop (length t) d
   -- how many numbers are needed is told of each accepted file
-  pub count : verdict f ≡ 0 → r.count ≡ length t
-  pub no_count : (verdict f ≡ 0 → ⊥) → r.count ≡ 0
+  pub count : verdict f ≡ 0 → told_count r ≡ length t
+  pub no_count : (verdict f ≡ 0 → ⊥) → told_count r ≡ 0
 
 -- the answer r of a run of answers that begins with the cell of variable i and observation j
-pub record RunGiven (l : Layout) (i j : ℕ) (d w : List ℕ) (r : Run) : Type 0 where
+pub record RunGiven (l : Layout) (i j : ℕ) (d w : List ℕ) (r : Result ℕ Refusal) : Type 0 where
   -- 0 or 16: the variable or the observation is not in 1..K or 1..N of the layout
-  pub number : (r.code ≡ 0) ⊎ (r.code ≡ 16)
-  pub out_of_range : Iff (r.code ≡ 16) (in_range l (ask_cell i j) ≡ false)
+  pub number : (code_of r ≡ 0) ⊎ (code_of r ≡ 16)
+  pub out_of_range : Iff (code_of r ≡ 16) (in_range l (ask_cell i j) ≡ false)
   -- refused, the slice is as it came
-  pub untouched : r.code ≡ 16 → (w ≡ d) × (r.count ≡ 0)
+  pub untouched : code_of r ≡ 16 → (w ≡ d) × (stored r ≡ 0)
 
 pub record Demand1 : Type 1 where
-  pub checked : (f : List ℕ) (r : Checked) → Checks f r → CheckGiven f r
+  pub checked : (f : List ℕ) (r : Result Checking.Layout Refusal) → Checks f r → CheckGiven f r
   pub asked : (f : List ℕ) (l : Layout) (q : Code.Question) (r : Told.Answer) → Asked f l q r → AskGiven f l q r
   pub told : {R : Type 0} (by : Answer → R) (f : List ℕ) (l : Layout) (q : Question) (r : R) → r ≡ by (answer_of f l q) → ToldGiven by f l q r
-  pub rewrote : (f : List ℕ) (e o : ℕ) (d w : List ℕ) (r : Rewritten) → Rewrites f e o d w r → RewriteGiven f e o d w r
+  pub rewrote : (f : List ℕ) (e o : ℕ) (d w : List ℕ) (r : Result ℕ Refusal) → Rewrites f e o d w r → RewriteGiven f e o d w r
   -- each run, of the answers to q 0, q 1, .., n at most
-  pub ran : (f : List ℕ) (l : Layout) (i j : ℕ) (q : ℕ → Question) (n : ℕ) (d w : List ℕ) (r : Run) → Tells f l i j q n d w r → RunGiven l i j d w r
+  pub ran : (f : List ℕ) (l : Layout) (i j : ℕ) (q : ℕ → Question) (n : ℕ) (d w : List ℕ) (r : Result ℕ Refusal) → Tells f l i j q n d w r → RunGiven l i j d w r
   -- each list: t is `longs_of f`, `sets_of f` or `sorted_of f`
-  pub listed : (f t d w : List ℕ) (r : Listed) → Lists f t d w r → ListGiven f t d w r
+  pub listed : (f t d w : List ℕ) (r : Result ℕ Untold) → Lists f t d w r → ListGiven f t d w r
 
 -- ---- 2. Accepted exactly when well formed, and every header fact, text, cell, long string and label is what the descriptions say. A label is
 -- found only by the exact value. Rewritten to any edition that can hold it, in either byte order, with room, a file is accepted and reads back
@@ -169,11 +170,10 @@ pub record WellFormed (f : List ℕ) (r : Release) (o : Order) (d : Dataset) (x 
   pub bytes : Fits f 0 ((file (edition r) o).slots (d, x))
   pub whole : length ((file (edition r) o).slots (d, x)) ≡ length f
 
--- the file f was accepted with the answer c
-pub record Accepted (f : List ℕ) (c : Checked) : Type 0 where
+-- the file f was accepted with the layout c
+pub record Accepted (f : List ℕ) (c : Checking.Layout) : Type 0 where
   pub is_file : Bytes f
-  pub answer : Checks f c
-  pub accepted : c.code ≡ 0
+  pub answer : Checks f (Ok c)
 
 -- what a well-formed file says is what is read
 pub record Says (f : List ℕ) (r : Release) (o : Order) (d : Dataset) (x : Extras) : Type 0 where
@@ -187,7 +187,7 @@ pub record Says (f : List ℕ) (r : Release) (o : Order) (d : Dataset) (x : Extr
 pub record FactGiven (f : List ℕ) (l : Layout) (q : Code.Question) (r : Told.Answer) : Type 0 where
   pub fact : r ≡ told_by (fact_of (edition_of f) (order_of f) (contents f) (question_by q))
   pub bytes : text_of f l q ≡ bytes_of (edition_of f) (order_of f) (contents f) (question_by q)
-  pub answered : in_range l (question_by q) ≡ true → (c : ℕ) → r ≡ A.Refused c → ⊥
+  pub answered : in_range l (question_by q) ≡ true → (c : Refusal) → r ≡ A.Refused c → ⊥
 
 -- the value of slot m of a table, signed
 abbrev pub value_at : Table → ℕ → ℤ
@@ -256,42 +256,42 @@ pub record ListsGiven (f : List ℕ) : Type 0 where
 
 -- g is accepted, is of edition e and byte order o and says the dataset of f
 pub record ReadsBack (f : List ℕ) (e o : ℕ) (g : List ℕ) : Type 0 where
-  pub accepted : (c : Checked) → Checks g c → Accepted g c
+  pub accepted : (c : Result Checking.Layout Refusal) → Checks g c → IsOkAnd c (Accepted g)
   pub release : (edition_of g).number ≡ e
   pub order : order_mark (order_of g) ≡ o
   pub dataset : dataset_of g ≡ dataset_of f
 
 pub record Demand2 : Type 1 where
   -- accepted only if well formed
-  pub only : (f : List ℕ) (c : Checked) → Accepted f c → WellFormed f (release_of f) (order_of f) (dataset_of f) (contents f).1
+  pub only : (f : List ℕ) (c : Checking.Layout) → Accepted f c → WellFormed f (release_of f) (order_of f) (dataset_of f) (contents f).1
   -- accepted if well formed, and read as what it says
-  pub if : (f : List ℕ) (r : Release) (o : Order) (d : Dataset) (x : Extras) → WellFormed f r o d x → (c : Checked) → Checks f c → (c.code ≡ 0) × (Says f r o d x)
+  pub if : (f : List ℕ) (r : Release) (o : Order) (d : Dataset) (x : Extras) → WellFormed f r o d x → (c : Result Checking.Layout Refusal) → Checks f c → (code_of c ≡ 0) × (Says f r o d x)
   -- beginnings of an accepted file
-  pub cut : (f : List ℕ) (c : Checked) → Accepted f c → (n : ℕ) → n ≤ length f → (b : Checked) → Checks (take n f) b → CutGiven f n b
+  pub cut : (f : List ℕ) (c : Checking.Layout) → Accepted f c → (n : ℕ) → n ≤ length f → (b : Result Checking.Layout Refusal) → Checks (take n f) b → CutGiven f n b
   -- each question is answered by the dataset, ..
-  pub facts : (f : List ℕ) (c : Checked) → Accepted f c → (q : Code.Question) (r : Told.Answer) → Asked f (layout_by c.layout) q r → FactGiven f (layout_by c.layout) q r
+  pub facts : (f : List ℕ) (c : Checking.Layout) → Accepted f c → (q : Code.Question) (r : Told.Answer) → Asked f (layout_by c) q r → FactGiven f (layout_by c) q r
   -- .. by a function of this question alone, too
-  pub told : {R : Type 0} (by : Answer → R) (f : List ℕ) (c : Checked) → Accepted f c → (q : Question) (r : R) → r ≡ by (answer_of f (layout_by c.layout) q)
+  pub told : {R : Type 0} (by : Answer → R) (f : List ℕ) (c : Checking.Layout) → Accepted f c → (q : Question) (r : R) → r ≡ by (answer_of f (layout_by c) q)
       → r ≡ by (fact_of (edition_of f) (order_of f) (contents f) q)
   -- a label is found only by the exact value: the words shown, ..
-  pub words : (f : List ℕ) (c : Checked) → Accepted f c → (i j : ℕ) (lent : List ℕ) → in_range (layout_by c.layout) (ask_words i j lent) ≡ true
-      → WordsGiven (dataset_of f) i j lent (words_of f lent (layout_by c.layout) i j)
+  pub words : (f : List ℕ) (c : Checking.Layout) → Accepted f c → (i j : ℕ) (lent : List ℕ) → in_range (layout_by c) (ask_words i j lent) ≡ true
+      → WordsGiven (dataset_of f) i j lent (words_of f lent (layout_by c) i j)
   -- .. the search in any table, ..
   pub exact : (q : ℤ) (t : Table) (m : ℕ) → slot_fact q t ≡ found m → (m < length t.offsets) × (value_at t m ≡ q)
   -- .. and by each value that a table of an accepted file has
-  pub found_by : (f : List ℕ) (c : Checked) → Accepted f c → (n : ℕ) → n < length (dataset_of f).label_blocks
+  pub found_by : (f : List ℕ) (c : Checking.Layout) → Accepted f c → (n : ℕ) → n < length (dataset_of f).label_blocks
       → let t = (block_at (dataset_of f) n).entries in
       (m : ℕ) → m < length t.offsets → slot_fact (value_at t m) t ≡ found m
   -- a run stores the dataset's facts
-  pub ran : (f : List ℕ) (c : Checked) → Accepted f c → (i j : ℕ) (q : ℕ → Question) (n : ℕ) (d w : List ℕ) (r : Run) → Tells f (layout_by c.layout) i j q n d w r
-      → w ≡ facts_to f q r.count ++ drop (r.count * 4) d
+  pub ran : (f : List ℕ) (c : Checking.Layout) → Accepted f c → (i j : ℕ) (q : ℕ → Question) (n : ℕ) (d w : List ℕ) (r : Result ℕ Refusal) → Tells f (layout_by c) i j q n d w r
+      → w ≡ facts_to f q (stored r) ++ drop (stored r * 4) d
   -- the lists of long strings and label sets
-  pub listed : (f : List ℕ) (c : Checked) → Accepted f c → ListsGiven f
+  pub listed : (f : List ℕ) (c : Checking.Layout) → Accepted f c → ListsGiven f
   -- each edition that is read is offered, in either byte order
   pub offers : (r : Release) (o : Order) → offered (edition r).number (order_mark o) ≡ true
   -- what an edition can hold of a dataset that was read: the types that it has (no strL and no text wider than 244 in 113, 114 and 115), a
   -- dataset label and texts that its fields have room for, a result within the length bound
-  pub can_hold : (f : List ℕ) (c : Checked) → Accepted f c → (r : Release) (o : Order) → let d = dataset_of f in let e = edition r in holds e o d
+  pub can_hold : (f : List ℕ) (c : Checking.Layout) → Accepted f c → (r : Release) (o : Order) → let d = dataset_of f in let e = edition r in holds e o d
       ≡ (all_types e.tagged d.var_types
       && (leb (length d.label) e.label_max
       && (all_shorter e.name_width d.var_names
@@ -300,12 +300,12 @@ pub record Demand2 : Type 1 where
       && (all_shorter e.var_label_width d.variable_labels
       && (all_shorter e.name_width (block_names d.label_blocks) && leb (length (written e o d)) length_max)))))))
   -- .. of which only types and length can be lacking where its fields are as wide as those of the file's own edition
-  pub as_wide : (f : List ℕ) (c : Checked) → Accepted f c → (r : Release) (o : Order) → AsWide (edition_of f) (edition r) → let d = dataset_of f in holds (edition r) o d
+  pub as_wide : (f : List ℕ) (c : Checking.Layout) → Accepted f c → (r : Release) (o : Order) → AsWide (edition_of f) (edition r) → let d = dataset_of f in holds (edition r) o d
       ≡ (all_types (edition r).tagged d.var_types && leb (length (written (edition r) o d)) length_max)
   -- rewritten where it can be held and there is room, it is accepted and reads back
-  pub back : (f : List ℕ) (c : Checked) → Accepted f c → (e o : ℕ) → offered e o ≡ true → holds (edition_to e) (order_to o) (dataset_of f) ≡ true
-      → (d w : List ℕ) (r : Rewritten) → Rewrites f e o d w r → length (rewritten f e o) ≤ length d
-      → (r.code ≡ 0) × (ReadsBack f e o (take r.len w))
+  pub back : (f : List ℕ) (c : Checking.Layout) → Accepted f c → (e o : ℕ) → offered e o ≡ true → holds (edition_to e) (order_to o) (dataset_of f) ≡ true
+      → (d w : List ℕ) (r : Result ℕ Refusal) → Rewrites f e o d w r → length (rewritten f e o) ≤ length d
+      → (code_of r ≡ 0) × (ReadsBack f e o (take (len_of r) w))
 
 -- ---- 3. Nothing from a dead byte gets out. Two files that differ in dead bytes alone have the same verdict, layout, dataset, answers (down to
 -- the bytes handed back) and rewritten output, in every byte of the buffer.
@@ -322,7 +322,7 @@ pub record SameAnswer {R : Type 0} (by : Answer → R) (f g : List ℕ) (l : Lay
 
 -- a list of numbers, told of f and of g: the same answer and the same numbers, into slices that held the same before, of any length
 abbrev pub SameNumbers : List ℕ → List ℕ → (List ℕ → List ℕ) → Type 0
-SameNumbers f g told = (d v w : List ℕ) (a b : Listed) → Lists f (told f) d v a → Lists g (told g) d w b → (b ≡ a) × (w ≡ v)
+SameNumbers f g told = (d v w : List ℕ) (a b : Result ℕ Untold) → Lists f (told f) d v a → Lists g (told g) d w b → (b ≡ a) × (w ≡ v)
 
 -- and the same bytes, where the numbers name some
 pub record SameList (f g : List ℕ) (told : List ℕ → List ℕ) (names : List ℕ → List ℕ → List (List ℕ)) : Type 0 where
@@ -338,19 +338,19 @@ pub record SameView (f g : List ℕ) (l : Layout) : Type 0 where
 
 pub record Demand3 : Type 1 where
   -- verdict and layout; dataset
-  pub checked : (f g : List ℕ) (c : Checked) → Accepted f c → DifferInDead f g → (b : Checked) → Checks g b → b ≡ c
-  pub dataset : (f g : List ℕ) (c : Checked) → Accepted f c → DifferInDead f g → dataset_of g ≡ dataset_of f
+  pub checked : (f g : List ℕ) (c : Checking.Layout) → Accepted f c → DifferInDead f g → (b : Result Checking.Layout Refusal) → Checks g b → b ≡ Ok c
+  pub dataset : (f g : List ℕ) (c : Checking.Layout) → Accepted f c → DifferInDead f g → dataset_of g ≡ dataset_of f
   -- answers, of a function of one question each, ..
-  pub told : {R : Type 0} (by : Answer → R) (f g : List ℕ) (c : Checked) → Accepted f c → DifferInDead f g → (q : Question) → SameAnswer by f g (layout_by c.layout) q
+  pub told : {R : Type 0} (by : Answer → R) (f g : List ℕ) (c : Checking.Layout) → Accepted f c → DifferInDead f g → (q : Question) → SameAnswer by f g (layout_by c) q
   -- .. and of `ask` and the view
-  pub viewed : (f g : List ℕ) (c : Checked) → Accepted f c → DifferInDead f g → SameView f g (layout_by c.layout)
+  pub viewed : (f g : List ℕ) (c : Checking.Layout) → Accepted f c → DifferInDead f g → SameView f g (layout_by c)
   -- runs of answers: into slices that held the same before, of any length
-  pub ran : (f g : List ℕ) (c : Checked) → Accepted f c → DifferInDead f g → (i j : ℕ) (q : ℕ → Question) (n : ℕ) (d v w : List ℕ) (a b : Run)
-      → Tells f (layout_by c.layout) i j q n d v a → Tells g (layout_by c.layout) i j q n d w b → (b ≡ a) × (w ≡ v)
+  pub ran : (f g : List ℕ) (c : Checking.Layout) → Accepted f c → DifferInDead f g → (i j : ℕ) (q : ℕ → Question) (n : ℕ) (d v w : List ℕ) (a b : Result ℕ Refusal)
+      → Tells f (layout_by c) i j q n d v a → Tells g (layout_by c) i j q n d w b → (b ≡ a) × (w ≡ v)
   -- lists: of long strings, of label sets, and of the variables in sort order, which names no bytes
-  pub longs : (f g : List ℕ) (c : Checked) → Accepted f c → DifferInDead f g → SameList f g longs_of longs_shown
-  pub sets : (f g : List ℕ) (c : Checked) → Accepted f c → DifferInDead f g → SameList f g sets_of sets_shown
-  pub sorted : (f g : List ℕ) (c : Checked) → Accepted f c → DifferInDead f g → SameNumbers f g sorted_of
+  pub longs : (f g : List ℕ) (c : Checking.Layout) → Accepted f c → DifferInDead f g → SameList f g longs_of longs_shown
+  pub sets : (f g : List ℕ) (c : Checking.Layout) → Accepted f c → DifferInDead f g → SameList f g sets_of sets_shown
+  pub sorted : (f g : List ℕ) (c : Checking.Layout) → Accepted f c → DifferInDead f g → SameNumbers f g sorted_of
   -- rewritten output: into buffers that held the same before, of any length, to any target
-  pub rewrote : (f g : List ℕ) (c : Checked) → Accepted f c → DifferInDead f g → (e o : ℕ) (d v w : List ℕ) (r s : Rewritten)
+  pub rewrote : (f g : List ℕ) (c : Checking.Layout) → Accepted f c → DifferInDead f g → (e o : ℕ) (d v w : List ℕ) (r s : Result ℕ Refusal)
       → Rewrites f e o d v r → Rewrites g e o d w s → (s ≡ r) × (w ≡ v)

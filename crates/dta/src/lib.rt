@@ -3,7 +3,7 @@
 #![tactic(auto)]
 
 ghost use Rattle.std.specs.Prelude.{◌≡◌, ℕ, ◌≤◌, ◌++◌, length, drop};
-ghost use Rattle.format.specs.Dta.{verdict, layout_of};
+ghost use Rattle.format.specs.Dta.{verdict, layout_of, no_layout};
 ghost use Rattle.checking.specs.Checks.{layout_by};
 ghost use Rattle.rewriting.specs.Rewriting.{rewrite_code, length_of, output_of};
 ghost use Rattle.dta.specs.Exports.{numbers, laid, stored};
@@ -20,10 +20,30 @@ fn put_layout(out: &mut [u64], l: Layout)
     out[1] = l.order;
     out[2] = l.k;
     out[3] = l.n;
-    let mut i: usize = 0;
-    while i < 14 {
+    for i in 0..14 {
         out[4 + i] = places[i];
-        i += 1;
+    }
+}
+
+// Stores it where there is room.
+fn store_layout(out: &mut [u64], l: Layout)
+    ensures { out.new ≡ laid (layout_by l) out.old }
+{
+    if 18 <= out.len() {
+        put_layout(out, l);
+    }
+}
+
+// All zeros: the layout that is stored with a refusal.
+fn no_layout() -> Layout
+    ensures { layout_by result ≡ no_layout }
+{
+    Layout {
+        edition: 0,
+        order: 0,
+        k: 0,
+        n: 0,
+        places: [0; 14],
     }
 }
 
@@ -33,11 +53,16 @@ fn put_layout(out: &mut [u64], l: Layout)
 pub extern "C" fn dta_check(file: &[u8], layout: &mut [u64]) -> u8
     ensures { (result ≡ verdict file.now) × (layout.new ≡ laid (layout_of file.now) layout.old) }
 {
-    let c = checking::check(file);
-    if 18 <= layout.len() {
-        put_layout(layout, c.layout);
+    match checking::check(file) {
+        Ok(l) => {
+            store_layout(layout, l);
+            0
+        }
+        Err(refusal) => {
+            store_layout(layout, no_layout());
+            refusal.number()
+        }
     }
-    c.code
 }
 
 // Stores a number in the first place of `out`, where it has one.
@@ -61,7 +86,14 @@ pub extern "C" fn dta_rewrite(
 ) -> u8
     ensures { (result ≡ rewrite_code file.now edition order (length out.old)) × (out.new ≡ output_of file.now edition order out.old) × (len.new ≡ stored (length_of file.now edition order (length out.old)) len.old) }
 {
-    let r = rewriting::rewrite(file, edition, order, &mut out[..]);
-    put_first(&mut len[..], r.len);
-    r.code
+    match rewriting::rewrite(file, edition, order, &mut out[..]) {
+        Ok(n) => {
+            put_first(&mut len[..], n as u64);
+            0
+        }
+        Err(refusal) => {
+            put_first(&mut len[..], 0);
+            refusal.number()
+        }
+    }
 }

@@ -5,11 +5,15 @@
 
 ghost use Rattle.std.specs.Prelude.{◌≤◌};
 
+use answers::Part;
 use cell::Cell;
 use checking::Layout;
-use codes::Kind;
+use codes::{Field, Kind};
+use columns::Column;
+use refusal::Refusal;
 use std::io;
 use std::io::{Read, Write};
+use walks::Long;
 
 // Writes a number and a space.
 fn say_number<W: Write>(out: &mut W, n: u64) -> io::Result<()> {
@@ -17,45 +21,39 @@ fn say_number<W: Write>(out: &mut W, n: u64) -> io::Result<()> {
     printing::say(out, b" ")
 }
 
-// Writes a refusal, where there is one; and whether there is.
-fn refused<W: Write>(out: &mut W, code: u8) -> io::Result<bool> {
-    if code == 0 {
-        return Ok(false);
-    }
+// The line of a refusal.
+fn refused<W: Write>(out: &mut W, refusal: Refusal) -> io::Result<()> {
     printing::say(out, b"refused ")?;
-    printing::say_decimal(out, code as u64)?;
-    printing::say(out, b"\n")?;
-    Ok(true)
-}
-
-// The line of a number.
-fn number_line<W: Write>(out: &mut W, r: answers::Number) -> io::Result<()> {
-    if refused(out, r.code)? {
-        return Ok(());
-    }
-    printing::say_decimal(out, r.value)?;
+    printing::say_decimal(out, refusal.number() as u64)?;
     printing::say(out, b"\n")
 }
 
+// The line of a number.
+fn number_line<W: Write>(out: &mut W, r: Result<u64, Refusal>) -> io::Result<()> {
+    match r {
+        Ok(n) => {
+            printing::say_decimal(out, n)?;
+            printing::say(out, b"\n")
+        }
+        Err(refusal) => refused(out, refusal),
+    }
+}
+
 // The line of a yes or no.
-fn mark_line<W: Write>(out: &mut W, r: text_facts::Mark) -> io::Result<()> {
-    if refused(out, r.code)? {
-        return Ok(());
+fn mark_line<W: Write>(out: &mut W, r: Result<bool, Refusal>) -> io::Result<()> {
+    match r {
+        Ok(true) => printing::say(out, b"yes\n"),
+        Ok(false) => printing::say(out, b"no\n"),
+        Err(refusal) => refused(out, refusal),
     }
-    if r.yes {
-        printing::say(out, b"yes\n")?;
-    } else {
-        printing::say(out, b"no\n")?;
-    }
-    Ok(())
 }
 
 // Writes a type.
-fn say_type<W: Write>(out: &mut W, kind: Kind, width: usize) -> io::Result<()> {
-    match kind {
+fn say_type<W: Write>(out: &mut W, field: Field) -> io::Result<()> {
+    match field.kind {
         Kind::Text => {
             printing::say(out, b"text ")?;
-            printing::say_decimal(out, width as u64)?;
+            printing::say_decimal(out, field.width as u64)?;
         }
         Kind::StrL => printing::say(out, b"strL")?,
         Kind::Byte => printing::say(out, b"byte")?,
@@ -69,46 +67,47 @@ fn say_type<W: Write>(out: &mut W, kind: Kind, width: usize) -> io::Result<()> {
 }
 
 // The line of a type.
-fn type_line<W: Write>(out: &mut W, r: variable_facts::Typed) -> io::Result<()> {
-    if refused(out, r.code)? {
-        return Ok(());
+fn type_line<W: Write>(out: &mut W, r: Result<Field, Refusal>) -> io::Result<()> {
+    match r {
+        Ok(field) => {
+            say_type(out, field)?;
+            printing::say(out, b"\n")
+        }
+        Err(refusal) => refused(out, refusal),
     }
-    let kind = r.kind;
-    say_type(out, kind, r.width)?;
-    printing::say(out, b"\n")
 }
 
-// The line of a part of the file: place, length and bytes.
-fn part_line<W: Write>(out: &mut W, f: &[u8], r: answers::Part) -> io::Result<()> {
-    if refused(out, r.code)? {
-        return Ok(());
+// Writes a part of the file: place, length and bytes.
+fn say_part<W: Write>(out: &mut W, f: &[u8], part: Part) -> io::Result<()> {
+    say_number(out, part.at)?;
+    say_number(out, part.len)?;
+    printing::say(out, answers::part_of(f, part))
+}
+
+// The line of a part of the file.
+fn part_line<W: Write>(out: &mut W, f: &[u8], r: Result<Part, Refusal>) -> io::Result<()> {
+    match r {
+        Ok(part) => {
+            printing::say(out, b"text ")?;
+            say_part(out, f, part)?;
+            printing::say(out, b"\n")
+        }
+        Err(refusal) => refused(out, refusal),
     }
-    printing::say(out, b"text ")?;
-    say_number(out, r.at)?;
-    say_number(out, r.len)?;
-    printing::say(out, answers::part_of(f, r.code, r.at, r.len))?;
-    printing::say(out, b"\n")
 }
 
 // The line of a column.
-fn column_line<W: Write>(out: &mut W, r: columns::Column) -> io::Result<()> {
-    if refused(out, r.code)? {
-        return Ok(());
+fn column_line<W: Write>(out: &mut W, r: Result<Column, Refusal>) -> io::Result<()> {
+    match r {
+        Ok(column) => {
+            printing::say(out, b"column ")?;
+            say_number(out, column.offset)?;
+            say_number(out, column.row)?;
+            say_type(out, column.field)?;
+            printing::say(out, b"\n")
+        }
+        Err(refusal) => refused(out, refusal),
     }
-    printing::say(out, b"column ")?;
-    say_number(out, r.offset)?;
-    say_number(out, r.row)?;
-    let kind = r.kind;
-    say_type(out, kind, r.width)?;
-    printing::say(out, b"\n")
-}
-
-// Writes a text cell.
-fn say_words<W: Write>(out: &mut W, f: &[u8], p: u64, n: u64) -> io::Result<()> {
-    printing::say(out, b"text ")?;
-    say_number(out, p)?;
-    say_number(out, n)?;
-    printing::say(out, answers::part_of(f, 0, p, n))
 }
 
 // Writes what a cell says.
@@ -132,7 +131,14 @@ fn say_cell<W: Write>(out: &mut W, f: &[u8], c: Cell) -> io::Result<()> {
         }
         Cell::Between => printing::say(out, b"between")?,
         Cell::Outside => printing::say(out, b"outside")?,
-        Cell::Text(p, n) => say_words(out, f, p as u64, n as u64)?,
+        Cell::Text(p, n) => {
+            let part = Part {
+                at: p as u64,
+                len: n as u64,
+            };
+            printing::say(out, b"text ")?;
+            say_part(out, f, part)?;
+        }
         Cell::Reference(v, o) => {
             printing::say(out, b"link ")?;
             say_number(out, v)?;
@@ -143,43 +149,55 @@ fn say_cell<W: Write>(out: &mut W, f: &[u8], c: Cell) -> io::Result<()> {
 }
 
 // The line of a cell.
-fn cell_line<W: Write>(out: &mut W, f: &[u8], r: cells::Said) -> io::Result<()> {
-    if refused(out, r.code)? {
-        return Ok(());
+fn cell_line<W: Write>(out: &mut W, f: &[u8], r: Result<Cell, Refusal>) -> io::Result<()> {
+    match r {
+        Ok(cell) => {
+            say_cell(out, f, cell)?;
+            printing::say(out, b"\n")
+        }
+        Err(refusal) => refused(out, refusal),
     }
-    let c = r.cell;
-    say_cell(out, f, c)?;
-    printing::say(out, b"\n")
 }
 
 // The line of a long string.
-fn long_line<W: Write>(out: &mut W, f: &[u8], r: walks::Long) -> io::Result<()> {
-    if refused(out, r.code)? {
-        return Ok(());
+fn long_line<W: Write>(out: &mut W, f: &[u8], r: Result<Long, Refusal>) -> io::Result<()> {
+    match r {
+        Ok(long) => {
+            let part = Part {
+                at: long.at,
+                len: long.len,
+            };
+            printing::say(out, b"long ")?;
+            say_number(out, long.kind as u64)?;
+            say_part(out, f, part)?;
+            printing::say(out, b"\n")
+        }
+        Err(refusal) => refused(out, refusal),
     }
-    printing::say(out, b"long ")?;
-    say_number(out, r.kind as u64)?;
-    say_number(out, r.at)?;
-    say_number(out, r.len)?;
-    printing::say(out, answers::part_of(f, r.code, r.at, r.len))?;
-    printing::say(out, b"\n")
+}
+
+// Writes where label words stand, or that the plain text is shown.
+fn say_place<W: Write>(out: &mut W, words: Option<Part>) -> io::Result<()> {
+    match words {
+        Some(part) => {
+            printing::say(out, b"file ")?;
+            say_number(out, part.at)?;
+            say_number(out, part.len)
+        }
+        None => printing::say(out, b"plain "),
+    }
 }
 
 // The line of label words; the plain text is `plain`.
 fn words_line<W: Write>(out: &mut W, f: &[u8], l: Layout, i: u64, j: u64) -> io::Result<()> {
-    let r = label_words::label_words(f, l, i, j);
-    if refused(out, r.code)? {
-        return Ok(());
+    match label_words::label_words(f, l, i, j) {
+        Ok(words) => {
+            say_place(out, words)?;
+            printing::say(out, label_words::words(f, b"plain", l, i, j))?;
+            printing::say(out, b"\n")
+        }
+        Err(refusal) => refused(out, refusal),
     }
-    if r.found {
-        printing::say(out, b"file ")?;
-        say_number(out, r.at)?;
-        say_number(out, r.len)?;
-    } else {
-        printing::say(out, b"plain ")?;
-    }
-    printing::say(out, label_words::words(f, b"plain", l, i, j))?;
-    printing::say(out, b"\n")
 }
 
 // The lines of the header facts.
@@ -220,21 +238,18 @@ fn ask_all<W: Write>(out: &mut W, f: &[u8], l: Layout, i: u64, j: u64) -> io::Re
 
 // Number `k` of a record.
 fn number_of(head: &[u8], k: usize) -> u64 {
-    if k < 21 {
-        if 168 <= head.len() {
-            return number::number(head, 8 * k, 8, false);
-        }
+    if k < 21 && 168 <= head.len() {
+        number::number(head, 8 * k, 8, false)
+    } else {
+        0
     }
-    0
 }
 
 // The layout of a record.
 fn layout_of(head: &[u8]) -> Layout {
     let mut places = [0u64; 14];
-    let mut k: usize = 0;
-    while k < 14 {
+    for k in 0..14 {
         places[k] = number_of(head, 5 + k);
-        k += 1;
     }
     Layout {
         edition: number_of(head, 1),
@@ -276,13 +291,11 @@ fn main(rt: HostRuntime) -> io::Result<()> {
     let mut out = rt.stdout();
     let mut file = [0u8; 262144];
     let mut head = [0u8; 168];
-    let mut left: u64 = 1000000000;
-    while 0 < left {
+    for _ in 0..1_000_000_000u64 {
         if printing::read_full(&mut input, &mut head)? < 168 {
             return Ok(());
         }
         answer(&mut input, &mut out, &mut file, &head)?;
-        left -= 1;
     }
     Ok(())
 }

@@ -1,7 +1,11 @@
 -- What the exported functions are given, and what they store.
-use Rattle.std.specs.Prelude.{◌≡◌, ℕ, ◌*◌, List, [], ◌∷◌, ◌++◌, cond, length, get_or, take, drop, eqb, leb}
+use Rattle.std.specs.Prelude.{◌≡◌, ℕ, ◌*◌, List, [], ◌∷◌, ◌++◌, cond, length, get_or, take, drop, eqb, leb, Option, Some, None}
 use Rattle.format.specs.Dta.{Layout, no_layout, verdict}
 use Rattle.questions.specs.Ask.{Question, Answer, refused, ask_edition, ask_order, ask_k, ask_n, ask_label, ask_stamp, ask_type, ask_name, ask_format, ask_set, ask_var_label, ask_date, ask_sort, ask_cell, ask_long, ask_words, answer_of, shown}
+use Rattle.refusal.specs.Refusals as Refusals
+use Rattle.asking.specs.declared.Answer as Told
+use Rattle.asking.specs.Asking.{answer_by}
+use Rattle.coded.specs.Coded as Coded
 use Rattle.coded.specs.Coded.{numbers_of, told, run_of}
 use Rattle.word_columns.specs.Across.{words_across, rows_from}
 
@@ -35,6 +39,11 @@ question_of q i j =
 -- a number that is no question's: 255, which is the boundary's own and stands in no table of document 01
 abbrev pub no_question : Answer
 no_question = refused 255
+
+-- what the code's answer means, where none is that of a number that is no question's
+abbrev pub given : Option Told.Answer → Answer
+given None = no_question
+given (Some x) = answer_by x
 
 -- the answer to the question of a number by the layout l. The text that is lent with label words is none: where nothing is found the answer is that the caller's plain
 -- text is shown
@@ -72,9 +81,9 @@ stored n d = cond (leb 1 (length d)) (n ∷ drop 1 d) d
 -- what a run of answers to q 0, q 1, .., n at most, from the cell of variable i and observation j on promises (`Tells`): r is its number, w is what the slice of answers
 -- then holds, which was d, and v what the slice for their count holds, which was e
 pub record Runs (f : List ℕ) (l : Layout) (i j : ℕ) (q : ℕ → Question) (n : ℕ) (d w e v : List ℕ) (r : ℕ) : Type 0 where
-  pub code : r ≡ (run_of l i j n (length d)).code
-  pub out : w ≡ (let m = (run_of l i j n (length d)).count in told f l q m ++ drop (m * 4) d)
-  pub count : v ≡ stored (run_of l i j n (length d)).count e
+  pub code : r ≡ Refusals.code_of (run_of l i j n (length d))
+  pub out : w ≡ (let m = Coded.stored (run_of l i j n (length d)) in told f l q m ++ drop (m * 4) d)
+  pub count : v ≡ stored (Coded.stored (run_of l i j n (length d))) e
 
 -- the same for the label words of the variables s in x observations from j on (`TellsAcross`)
 abbrev pub RunsAcross : List ℕ → Layout → List ℕ → ℕ → ℕ → List ℕ → List ℕ → List ℕ → List ℕ → ℕ → Type 0

@@ -13,10 +13,15 @@ ghost use Rattle.long_list.specs.Lists.{list_code, list_count, list_out};
 ghost use Rattle.long_list.specs.Longs.{longs_of};
 ghost use Rattle.set_list.specs.Sets.{sets_of};
 ghost use Rattle.sort_order.specs.Sorted.{sorted_of};
-ghost use Rattle.dta_facts.specs.Exports.{layout_in, question_of, asked_in, asked_by, shown_by, code_of, file_code, copied, answered, stored, Runs, RunsAcross};
+ghost use Rattle.long_list.specs.Lists.{told_code, told_count};
+ghost use Rattle.coded.specs.Coded as Coded;
+ghost use Rattle.refusal.specs.Refusals as Refusals;
+ghost use Rattle.dta_facts.specs.Exports.{layout_in, question_of, asked_in, asked_by, given, shown_by, code_of, file_code, copied, answered, stored, Runs, RunsAcross};
 
 use asking::{Answer, Question};
 use checking::Layout;
+use long_list::Untold;
+use refusal::Refusal;
 
 // The layout of eighteen numbers; all zeros where there are fewer.
 fn layout_in(s: &[u64]) -> Layout
@@ -32,11 +37,7 @@ fn layout_in(s: &[u64]) -> Layout
             places,
         };
     }
-    let mut i: usize = 0;
-    while i < 14 {
-        places[i] = s[4 + i];
-        i += 1;
-    }
+    places.copy_from_slice(&s[4..18]);
     Layout {
         edition: s[0],
         order: s[1],
@@ -70,32 +71,43 @@ fn question_of(q: u64, i: u64, j: u64) -> Question
     }
 }
 
-// The answer to the question of a number; 255 where there is no such question.
-fn asked(file: &[u8], layout: &[u64], q: u64, i: u64, j: u64) -> Answer
-    ensures { answer_by result ≡ asked_by file.now layout.now q i j }
+// The answer to the question of a number; none where there is no such question.
+fn asked(file: &[u8], layout: &[u64], q: u64, i: u64, j: u64) -> Option<Answer>
+    ensures { given result ≡ asked_by file.now layout.now q i j }
 {
     if 15 < q {
-        return Answer::Refused(255);
+        return None;
     }
-    viewed::asked(file, layout_in(layout), question_of(q, i, j))
+    Some(viewed::asked(file, layout_in(layout), question_of(q, i, j)))
 }
 
-// The refusal's number of an answer, 0 where it is none.
-fn code_of(x: Answer) -> u8
-    ensures { result ≡ code_of (answer_by x) }
+// The refusal's number of an answer, 0 where it is none; 255 where there is no such question.
+fn code_of(x: Option<Answer>) -> u8
+    ensures { result ≡ code_of (given x) }
 {
     match x {
-        Answer::Refused(c) => c,
-        _ => 0,
+        Some(Answer::Refused(refusal)) => refusal.number(),
+        Some(_) => 0,
+        None => 255,
+    }
+}
+
+// The numbers of an answer; where there is no such question, those of a refusal with 255.
+fn numbers_of(x: Option<Answer>) -> [u64; 4]
+    ensures { result ≡ Coded.numbers_of (given x) }
+{
+    match x {
+        Some(x) => coded::numbers_of(x),
+        None => [0, 255, 0, 0],
     }
 }
 
 // Stores an answer as four numbers, where `out` has room for them.
-fn put_answer(out: &mut [u64], x: Answer)
-    ensures { out.new ≡ answered (answer_by x) out.old }
+fn put_answer(out: &mut [u64], x: Option<Answer>)
+    ensures { out.new ≡ answered (given x) out.old }
 {
     if 4 <= out.len() {
-        coded::put_four(out, coded::numbers_of(x));
+        coded::put_four(out, numbers_of(x));
     }
 }
 
@@ -157,14 +169,11 @@ pub extern "C" fn dta_text<'a>(
 }
 
 // The answer to the question of a number by the file's own layout; the verdict's number is stored.
-fn checked_by(file: &[u8], code: &mut u8, q: u64, i: u64, j: u64) -> Answer
-    ensures { (code.new ≡ verdict file.now) × (answer_by result ≡ asked_in file.now (layout_of file.now) q i j) }
+fn checked_by(file: &[u8], code: &mut u8, q: u64, i: u64, j: u64) -> Option<Answer>
+    ensures { (code.new ≡ verdict file.now) × (given result ≡ asked_in file.now (layout_of file.now) q i j) }
 {
     let x = viewed::checked_asked(file, code, question_of(q, i, j));
-    if q <= 15 {
-        return x;
-    }
-    Answer::Refused(255)
+    if q <= 15 { Some(x) } else { None }
 }
 
 // The first number, or the second where that is 0.
@@ -198,6 +207,26 @@ fn put_first(out: &mut [u64], n: u64)
     }
 }
 
+// How many answers a run stored.
+fn count_of(run: Result<usize, Refusal>) -> u64
+    ensures { result ≡ Coded.stored run }
+{
+    match run {
+        Ok(count) => count as u64,
+        Err(_) => 0,
+    }
+}
+
+// The refusal's number of a run, 0 where it is none.
+fn number_of(run: Result<usize, Refusal>) -> u8
+    ensures { result ≡ Refusals.code_of run }
+{
+    match run {
+        Ok(_) => 0,
+        Err(refusal) => refusal.number(),
+    }
+}
+
 // The cells of variable `i` from observation `j` on, four numbers each, as many as `answers` has room for: 0, or 16 where there is no such variable or no
 // such observation. How many are stored is told in the first place of `count`, where it has one; 0 with a refusal.
 #[unsafe(no_mangle)]
@@ -212,8 +241,8 @@ pub extern "C" fn dta_cells_down(
     ensures { Runs file.now (layout_in layout.now) i j (λ (m : ℕ). ask_cell i (j + m)) (following j (layout_in layout.now).rows) answers.old answers.new count.old count.new result }
 {
     let down = cell_runs::cells_down(file, layout_in(layout), i, j, &mut answers[..]);
-    put_first(&mut count[..], down.count as u64);
-    down.code
+    put_first(&mut count[..], count_of(down));
+    number_of(down)
 }
 
 // The cells of observation `j` from variable `i` on. Otherwise as `dta_cells_down`.
@@ -229,8 +258,8 @@ pub extern "C" fn dta_cells_along(
     ensures { Runs file.now (layout_in layout.now) i j (λ (m : ℕ). ask_cell (i + m) j) (following i (layout_in layout.now).variables) answers.old answers.new count.old count.new result }
 {
     let along = cell_runs::cells_along(file, layout_in(layout), i, j, &mut answers[..]);
-    put_first(&mut count[..], along.count as u64);
-    along.code
+    put_first(&mut count[..], count_of(along));
+    number_of(along)
 }
 
 // The label words of the cells of variable `i` from observation `j` on. Otherwise as `dta_cells_down`.
@@ -246,8 +275,8 @@ pub extern "C" fn dta_words_down(
     ensures { Runs file.now (layout_in layout.now) i j (λ (m : ℕ). ask_words i (j + m) []) (following j (layout_in layout.now).rows) answers.old answers.new count.old count.new result }
 {
     let words = word_runs::words_down(file, layout_in(layout), i, j, &mut answers[..]);
-    put_first(&mut count[..], words.count as u64);
-    words.code
+    put_first(&mut count[..], count_of(words));
+    number_of(words)
 }
 
 // The label words of the cells of the listed variables in `rows` observations from `j` on, at most those that there are, one variable after another, four numbers each,
@@ -273,8 +302,30 @@ pub extern "C" fn dta_words_across(
         rows,
         &mut answers[..],
     );
-    put_first(&mut count[..], across.count as u64);
-    across.code
+    put_first(&mut count[..], count_of(across));
+    number_of(across)
+}
+
+// How many numbers a list has, as it is told; 0 where the file is refused.
+fn list_count(list: Result<usize, Untold>) -> u64
+    ensures { result ≡ told_count list }
+{
+    match list {
+        Ok(count) => count as u64,
+        Err(Untold::NoRoom(count)) => count as u64,
+        Err(Untold::Refused(_)) => 0,
+    }
+}
+
+// The number of a list that is not told, 0 where it is.
+fn list_code(list: Result<usize, Untold>) -> u8
+    ensures { result ≡ told_code list }
+{
+    match list {
+        Ok(_) => 0,
+        Err(Untold::NoRoom(_)) => Refusal::NoRoom.number(),
+        Err(Untold::Refused(refusal)) => refusal.number(),
+    }
 }
 
 // The verdict on a file; of an accepted one, the long strings, five numbers each: v, o, kind, place and length of the contents. A `list` with no room for
@@ -285,8 +336,8 @@ pub extern "C" fn dta_long_list(file: &[u8], list: &mut [u64], count: &mut [u64]
     ensures { (result ≡ list_code file.now (longs_of file.now) (length list.old)) × (list.new ≡ list_out file.now (longs_of file.now) list.old) × (count.new ≡ stored (list_count file.now (longs_of file.now)) count.old) }
 {
     let longs = long_list::long_list(file, &mut list[..]);
-    put_first(&mut count[..], longs.count);
-    longs.code
+    put_first(&mut count[..], list_count(longs));
+    list_code(longs)
 }
 
 // The verdict on a file; of an accepted one, the label sets: for each, place and length of its name and how many entries it has, and then for each
@@ -296,8 +347,8 @@ pub extern "C" fn dta_set_list(file: &[u8], list: &mut [u64], count: &mut [u64])
     ensures { (result ≡ list_code file.now (sets_of file.now) (length list.old)) × (list.new ≡ list_out file.now (sets_of file.now) list.old) × (count.new ≡ stored (list_count file.now (sets_of file.now)) count.old) }
 {
     let sets = set_list::set_list(file, &mut list[..]);
-    put_first(&mut count[..], sets.count);
-    sets.code
+    put_first(&mut count[..], list_count(sets));
+    list_code(sets)
 }
 
 // The verdict on a file; of an accepted one, the numbers of the variables by which it is sorted, in that order. Otherwise as `dta_long_list`.
@@ -306,6 +357,6 @@ pub extern "C" fn dta_sort_order(file: &[u8], list: &mut [u64], count: &mut [u64
     ensures { (result ≡ list_code file.now (sorted_of file.now) (length list.old)) × (list.new ≡ list_out file.now (sorted_of file.now) list.old) × (count.new ≡ stored (list_count file.now (sorted_of file.now)) count.old) }
 {
     let sorted = sort_order::sort_order(file, &mut list[..]);
-    put_first(&mut count[..], sorted.count);
-    sorted.code
+    put_first(&mut count[..], list_count(sorted));
+    list_code(sorted)
 }

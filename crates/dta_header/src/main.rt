@@ -30,15 +30,14 @@ fn say_layout<W: Write>(out: &mut W, l: Layout, n: usize) -> io::Result<()> {
 
 // Writes the line of a file.
 fn say_file<W: Write>(out: &mut W, f: &[u8]) -> io::Result<()> {
-    let c = checking::check(f);
-    if c.code == 0 {
-        say_layout(out, c.layout, f.len())?;
-    } else {
-        printing::say(out, b"refused ")?;
-        printing::say_decimal(out, c.code as u64)?;
-        printing::say(out, b"\n")?;
+    match checking::check(f) {
+        Ok(layout) => say_layout(out, layout, f.len()),
+        Err(refusal) => {
+            printing::say(out, b"refused ")?;
+            printing::say_decimal(out, refusal.number() as u64)?;
+            printing::say(out, b"\n")
+        }
     }
-    Ok(())
 }
 
 fn main(rt: HostRuntime) -> io::Result<()> {

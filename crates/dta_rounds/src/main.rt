@@ -5,7 +5,7 @@
 
 #![tactic(auto)]
 
-ghost use Rattle.std.specs.Prelude.{◌≤◌, length};
+ghost use Rattle.std.specs.Prelude.{◌≤◌};
 
 use std::io;
 use std::io::{Read, Write};
@@ -41,25 +41,31 @@ fn room_for(n: u64, room: usize) -> usize
 
 // Copies bytes, as far as there is room.
 fn copy(from: &[u8], to: &mut [u8]) {
-    let mut i: usize = 0;
-    while i < from.len() {
-        if to.len() <= i {
-            return;
-        }
-        to[i] = from[i];
-        i += 1;
-    }
+    let n = from.len().min(to.len());
+    to[..n].copy_from_slice(&from[..n]);
 }
 
 // The checksum of the bytes: 31 times what it was and the next byte, in 32 bits.
 fn checksum(f: &[u8]) -> u64 {
     let mut sum: u64 = 0;
-    let mut i: usize = 0;
-    while i < f.len() {
-        sum = (31 * sum + f[i] as u64) % 4294967296;
-        i += 1;
+    for byte in f {
+        sum = (31 * sum + *byte as u64) % 4294967296;
     }
     sum
+}
+
+// The line of a step: edition, byte order, number and length.
+fn step_line<W: Write>(
+    lines: &mut W,
+    edition: u64,
+    order: u64,
+    number: u8,
+    len: u64,
+) -> io::Result<()> {
+    say_number(lines, edition)?;
+    say_order(lines, order)?;
+    say_number(lines, number as u64)?;
+    end_line(lines, len)
 }
 
 // Rewrites the first `n` bytes of `file`, writes the line, and leaves the result in `file`; its length, or `n` where it is refused.
@@ -72,17 +78,17 @@ fn step<W: Write>(
     order: u64,
 ) -> io::Result<u64> {
     let m = room_for(n, file.len());
-    let r = rewriting::rewrite(&file[0..m], edition, order, out);
-    say_number(lines, edition)?;
-    say_order(lines, order)?;
-    say_number(lines, r.code as u64)?;
-    end_line(lines, r.len)?;
-    if r.code != 0 {
-        return Ok(n);
+    match rewriting::rewrite(&file[0..m], edition, order, out) {
+        Ok(len) => {
+            step_line(lines, edition, order, 0, len as u64)?;
+            copy(&out[..len.min(out.len())], file);
+            Ok(len as u64)
+        }
+        Err(refusal) => {
+            step_line(lines, edition, order, refusal.number(), 0)?;
+            Ok(n)
+        }
     }
-    let k = room_for(r.len, out.len());
-    copy(&out[0..k], file);
-    Ok(r.len)
 }
 
 // To an edition, in both byte orders.
@@ -106,14 +112,6 @@ fn round<W: Write>(lines: &mut W, file: &mut [u8], out: &mut [u8], n: u64) -> io
     both_orders(lines, file, out, d, 118)
 }
 
-// The number of the file that is the first `m` bytes.
-fn verdict_of(file: &[u8], m: usize) -> u8
-    requires { m ≤ length file.now }
-{
-    let c = checking::check(&file[0..m]);
-    c.code
-}
-
 // Answers a record: its file, of `n` bytes.
 fn answer<R: Read, W: Write>(
     input: &mut R,
@@ -124,10 +122,9 @@ fn answer<R: Read, W: Write>(
 ) -> io::Result<()> {
     let m = room_for(n, file.len());
     printing::read_full(input, &mut file[0..m])?;
-    let code = verdict_of(file, m);
-    if code != 0 {
+    if let Err(refusal) = checking::check(&file[0..m]) {
         printing::say(lines, b"refused ")?;
-        return end_line(lines, code as u64);
+        return end_line(lines, refusal.number() as u64);
     }
     let a = round(lines, file, out, m as u64)?;
     let b = round(lines, file, out, a)?;
@@ -139,9 +136,10 @@ fn answer<R: Read, W: Write>(
 // The number at the start of a record.
 fn number_of(head: &[u8]) -> u64 {
     if 8 <= head.len() {
-        return number::number(head, 0, 8, false);
+        number::number(head, 0, 8, false)
+    } else {
+        0
     }
-    0
 }
 
 // Answers the records, at most a billion.
@@ -151,8 +149,7 @@ fn main(rt: HostRuntime) -> io::Result<()> {
     let mut file = [0u8; 65536];
     let mut out = [0u8; 65536];
     let mut head = [0u8; 8];
-    let mut left: u64 = 1000000000;
-    while 0 < left {
+    for _ in 0..1_000_000_000u64 {
         if printing::read_full(&mut input, &mut head)? < 8 {
             return Ok(());
         }
@@ -163,7 +160,6 @@ fn main(rt: HostRuntime) -> io::Result<()> {
             &mut out,
             number_of(&head),
         )?;
-        left -= 1;
     }
     Ok(())
 }

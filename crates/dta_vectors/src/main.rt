@@ -6,28 +6,21 @@
 ghost use Rattle.std.specs.Prelude.{◌<◌};
 ghost use Rattle.cell.specs.Cells.{Lettered, says};
 
-use cell::{Cell, Key};
-use codes::Kind;
+use cell::Cell;
+use codes::{Field, Kind};
 use search::Slot;
 use std::io;
 use std::io::Write;
 
 // Writes the byte order.
 fn say_order<W: Write>(out: &mut W, msf: bool) -> io::Result<()> {
-    if msf {
-        printing::say(out, b" MSF ")?;
-    } else {
-        printing::say(out, b" LSF ")?;
-    }
-    Ok(())
+    printing::say(out, if msf { b" MSF " } else { b" LSF " })
 }
 
 // Writes bytes in hexadecimal.
 fn say_bytes<W: Write>(out: &mut W, t: &[u8]) -> io::Result<()> {
-    let mut i = 0;
-    while i < t.len() {
-        printing::say_hex(out, t[i])?;
-        i += 1;
+    for &x in t {
+        printing::say_hex(out, x)?;
     }
     Ok(())
 }
@@ -41,11 +34,8 @@ fn say_double<W: Write>(out: &mut W, x: f64) -> io::Result<()> {
 // Writes the letter of a missing value: `.`, or `.a` to `.z`.
 fn say_letter<W: Write>(out: &mut W, k: u8) -> io::Result<()> {
     printing::say(out, b"letter .")?;
-    if 0 < k {
-        if k <= 26 {
-            let c = [96 + k];
-            printing::say(out, &c)?;
-        }
+    if 0 < k && k <= 26 {
+        printing::say(out, &[96 + k])?;
     }
     Ok(())
 }
@@ -55,31 +45,16 @@ fn say_cell<W: Write>(out: &mut W, c: Cell) -> io::Result<()> {
     match c {
         Cell::Whole(x) => {
             printing::say(out, b"number ")?;
-            printing::say_signed(out, x)?;
+            printing::say_signed(out, x)
         }
-        Cell::Single(x) => {
-            say_double(out, std::num::f32_to_f64_with_nan(x))?;
-        }
-        Cell::Double(x) => {
-            say_double(out, x)?;
-        }
-        Cell::Letter(k) => {
-            say_letter(out, k)?;
-        }
-        Cell::Between => {
-            printing::say(out, b"between")?;
-        }
-        Cell::Outside => {
-            printing::say(out, b"outside")?;
-        }
-        Cell::Text(_, _) => {
-            printing::say(out, b"text")?;
-        }
-        Cell::Reference(_, _) => {
-            printing::say(out, b"reference")?;
-        }
+        Cell::Single(x) => say_double(out, std::num::f32_to_f64_with_nan(x)),
+        Cell::Double(x) => say_double(out, x),
+        Cell::Letter(k) => say_letter(out, k),
+        Cell::Between => printing::say(out, b"between"),
+        Cell::Outside => printing::say(out, b"outside"),
+        Cell::Text(_, _) => printing::say(out, b"text"),
+        Cell::Reference(_, _) => printing::say(out, b"reference"),
     }
-    Ok(())
 }
 
 // Writes what a cell says and what it seeks.
@@ -89,14 +64,9 @@ fn say_both<W: Write>(out: &mut W, c: Cell) -> io::Result<()>
     printing::say(out, b" ")?;
     say_cell(out, c)?;
     printing::say(out, b" seeks ")?;
-    let k = cell::key_of(c);
-    match k {
-        Key::Seeks(q) => {
-            printing::say_signed(out, q)?;
-        }
-        Key::Nothing => {
-            printing::say(out, b"nothing")?;
-        }
+    match cell::key_of(c) {
+        Some(q) => printing::say_signed(out, q)?,
+        None => printing::say(out, b"nothing")?,
     }
     printing::say(out, b"\n")
 }
@@ -104,32 +74,15 @@ fn say_both<W: Write>(out: &mut W, c: Cell) -> io::Result<()>
 // Writes the name of a kind.
 fn say_kind<W: Write>(out: &mut W, kind: Kind) -> io::Result<()> {
     match kind {
-        Kind::Text => {
-            printing::say(out, b"text")?;
-        }
-        Kind::StrL => {
-            printing::say(out, b"strL")?;
-        }
-        Kind::Byte => {
-            printing::say(out, b"byte")?;
-        }
-        Kind::Int => {
-            printing::say(out, b"int")?;
-        }
-        Kind::Long => {
-            printing::say(out, b"long")?;
-        }
-        Kind::Float => {
-            printing::say(out, b"float")?;
-        }
-        Kind::Double => {
-            printing::say(out, b"double")?;
-        }
-        Kind::Unknown => {
-            printing::say(out, b"unknown")?;
-        }
+        Kind::Text => printing::say(out, b"text"),
+        Kind::StrL => printing::say(out, b"strL"),
+        Kind::Byte => printing::say(out, b"byte"),
+        Kind::Int => printing::say(out, b"int"),
+        Kind::Long => printing::say(out, b"long"),
+        Kind::Float => printing::say(out, b"float"),
+        Kind::Double => printing::say(out, b"double"),
+        Kind::Unknown => printing::say(out, b"unknown"),
     }
-    Ok(())
 }
 
 // Two bytes as a number.
@@ -150,35 +103,26 @@ fn cell_line<W: Write>(out: &mut W, row: &[u8]) -> io::Result<()> {
     match kind {
         Kind::Byte => {
             say_bytes(out, &row[3..4])?;
-            say_both(out, cell::cell_at(row, 3, Kind::Byte, 1, 4, 4, msf))?;
+            say_both(out, cell::cell_at(row, 3, Kind::Byte, 1, 4, 4, msf))
         }
         Kind::Int => {
             say_bytes(out, &row[3..5])?;
-            say_both(out, cell::cell_at(row, 3, Kind::Int, 2, 4, 4, msf))?;
+            say_both(out, cell::cell_at(row, 3, Kind::Int, 2, 4, 4, msf))
         }
         Kind::Long => {
             say_bytes(out, &row[3..7])?;
-            say_both(out, cell::cell_at(row, 3, Kind::Long, 4, 4, 4, msf))?;
+            say_both(out, cell::cell_at(row, 3, Kind::Long, 4, 4, 4, msf))
         }
         Kind::Float => {
             say_bytes(out, &row[3..7])?;
-            say_both(out, cell::cell_at(row, 3, Kind::Float, 4, 4, 4, msf))?;
+            say_both(out, cell::cell_at(row, 3, Kind::Float, 4, 4, 4, msf))
         }
         Kind::Double => {
             say_bytes(out, &row[3..11])?;
-            say_both(out, cell::cell_at(row, 3, Kind::Double, 8, 4, 4, msf))?;
+            say_both(out, cell::cell_at(row, 3, Kind::Double, 8, 4, 4, msf))
         }
-        Kind::Text => {
-            printing::say(out, b"\n")?;
-        }
-        Kind::StrL => {
-            printing::say(out, b"\n")?;
-        }
-        Kind::Unknown => {
-            printing::say(out, b"\n")?;
-        }
+        Kind::Text | Kind::StrL | Kind::Unknown => printing::say(out, b"\n"),
     }
-    Ok(())
 }
 
 // The line of a type code: a row has 1 for a tagged edition, and the code.
@@ -188,14 +132,8 @@ fn code_line<W: Write>(out: &mut W, row: &[u8]) -> io::Result<()> {
     }
     let tagged = row[0] == 1;
     let code = two(row[1], row[2]);
-    let field = codes::field_of(tagged, code);
-    let kind = field.kind;
-    let width = field.width;
-    if tagged {
-        printing::say(out, b"117 type ")?;
-    } else {
-        printing::say(out, b"114 type ")?;
-    }
+    let Field { kind, width } = codes::field_of(tagged, code);
+    printing::say(out, if tagged { b"117 type " } else { b"114 type " })?;
     printing::say_decimal(out, code as u64)?;
     printing::say(out, b" ")?;
     say_kind(out, kind)?;
@@ -227,8 +165,7 @@ fn search_line<W: Write>(out: &mut W, row: &[u8]) -> io::Result<()> {
     say_bytes(out, &row[2..33])?;
     printing::say(out, b" seeks ")?;
     printing::say_signed(out, sought)?;
-    let slot = search::find_value(row, 18, 33, 2, msf, sought);
-    match slot {
+    match search::find_value(row, 18, 33, 2, msf, sought) {
         Slot::Found(k) => {
             printing::say(out, b" slot ")?;
             printing::say_decimal(out, k as u64)?;
@@ -248,25 +185,19 @@ fn line<W: Write>(out: &mut W, row: &[u8]) -> io::Result<()> {
     if row.len() < 34 {
         return Ok(());
     }
-    let what = row[0];
-    if what == 0 {
-        cell_line(out, &row[1..34])?;
+    let rest = &row[1..34];
+    match row[0] {
+        0 => cell_line(out, rest),
+        1 => code_line(out, rest),
+        2 => search_line(out, rest),
+        _ => Ok(()),
     }
-    if what == 1 {
-        code_line(out, &row[1..34])?;
-    }
-    if what == 2 {
-        search_line(out, &row[1..34])?;
-    }
-    Ok(())
 }
 
 // The lines of rows.
 fn lines<W: Write>(out: &mut W, rows: &[u8]) -> io::Result<()> {
-    let mut at = 0;
-    while 34 <= rows.len() - at {
-        line(out, &rows[at..at + 34])?;
-        at += 34;
+    for row in rows.chunks_exact(34) {
+        line(out, row)?;
     }
     Ok(())
 }

@@ -1,7 +1,9 @@
 -- An edition's numbers, as code has them.
-use Rattle.std.specs.Prelude.{ℕ, Bool}
+use Rattle.std.specs.Prelude.{Option, Some, None}
 use Rattle.format.specs.Edition as Format
 use Rattle.editions.specs.declared.Edition.{Edition}
+use Rattle.editions.specs.declared.Release.{Release}
+use Rattle.editions.specs.declared.Release.TheVariants.{R113, R114, R115, R117, R118}
 
 -- the numbers, as the format's definitions have them
 abbrev pub numbers_of : Edition → Format.Edition
@@ -37,19 +39,15 @@ edition_by e =
       record_width = e.record_width;
     }
 
--- the numbers of an edition from 113 to 117, from those in which they differ
-abbrev pub row_of : ℕ → Bool → ℕ → Format.Edition
-row_of n t w =
-    record {
-      number = n;
-      tagged = t;
-      n_width = 4;
-      label_max = 80;
-      label_length = 1;
-      name_width = 33;
-      format_width = w;
-      var_label_width = 81;
-      v_width = 4;
-      o_width = 4;
-      record_width = 4;
-    }
+-- the edition, as the format's definitions have it
+abbrev pub release_as : Release → Format.Release
+release_as R113 = Format.r113
+release_as R114 = Format.r114
+release_as R115 = Format.r115
+release_as R117 = Format.r117
+release_as R118 = Format.r118
+
+-- .. where there is one
+abbrev pub read_as : Option Release → Option Format.Release
+read_as None = None
+read_as (Some r) = Some (release_as r)

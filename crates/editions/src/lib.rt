@@ -1,9 +1,12 @@
 #![tactic(auto)]
 
-ghost use Rattle.std.specs.Prelude.{◌≡◌, cond};
+ghost use Rattle.std.specs.Prelude.{◌≡◌, true, cond, Some, None};
+ghost use Rattle.format.specs.Grammar.{no_zero, same_at};
 ghost use Rattle.format.specs.Edition.{r117, r118, edition, is_release, release_by};
-ghost use Rattle.format.specs.Dta.{begins, known, edition_of, is_msf};
-ghost use Rattle.editions.specs.Editions.{numbers_of, row_of};
+ghost use Rattle.format.specs.Dta.{begins, known, release_of, is_msf};
+ghost use Rattle.editions.specs.Editions.{numbers_of, release_as, read_as};
+
+use refusal::Refusal;
 
 // The numbers that an edition's layout depends on.
 #[derive(Clone, Copy)]
@@ -21,27 +24,16 @@ pub struct Edition {
     pub record_width: usize,
 }
 
-// The numbers that 113 to 117 share, with those of one of them.
-fn row(number: u8, tagged: bool, wide: usize) -> Edition
-    ensures { numbers_of result ≡ row_of number tagged wide }
+// Whether a file begins with the tags `t`.
+fn begins_with(f: &[u8], t: &[u8]) -> bool
+    requires { no_zero t.now ≡ true }
+    ensures { result ≡ same_at t.now f.now 0 }
 {
-    Edition {
-        number: number,
-        tagged: tagged,
-        n_width: 4,
-        label_max: 80,
-        label_length: 1,
-        name_width: 33,
-        format_width: wide,
-        var_label_width: 81,
-        v_width: 4,
-        o_width: 4,
-        record_width: 4,
-    }
+    text::tag_at(f, 0, t, Refusal::UnknownBeginning).is_ok()
 }
 
 // The numbers of 118.
-fn row_118() -> Edition
+fn numbers_118() -> Edition
     ensures { numbers_of result ≡ edition r118 }
 {
     Edition {
@@ -59,59 +51,112 @@ fn row_118() -> Edition
     }
 }
 
+// An edition that is read, by its number.
+#[derive(Clone, Copy)]
+pub enum Release {
+    R113 = 113,
+    R114 = 114,
+    R115 = 115,
+    R117 = 117,
+    R118 = 118,
+}
+
+impl Release {
+    // Its number.
+    pub fn number(self) -> u8
+        ensures { result ≡ (edition (release_as self)).number }
+    {
+        self as u8
+    }
+
+    // The numbers of its layout.
+    pub fn numbers(self) -> Edition
+        ensures { numbers_of result ≡ edition (release_as self) }
+    {
+        let old = Edition {
+            number: 115,
+            tagged: false,
+            n_width: 4,
+            label_max: 80,
+            label_length: 1,
+            name_width: 33,
+            format_width: 49,
+            var_label_width: 81,
+            v_width: 4,
+            o_width: 4,
+            record_width: 4,
+        };
+        match self {
+            Release::R113 => Edition {
+                number: 113,
+                format_width: 12,
+                ..old
+            },
+            Release::R114 => Edition { number: 114, ..old },
+            Release::R115 => old,
+            Release::R117 => Edition {
+                number: 117,
+                tagged: true,
+                ..old
+            },
+            Release::R118 => numbers_118(),
+        }
+    }
+
+    // The edition of a number, if it is one that is read.
+    pub fn by_number(number: u64) -> Option<Release>
+        ensures { read_as result ≡ cond (is_release number) (Some (release_by number)) None }
+    {
+        match number {
+            113 => Some(Release::R113),
+            114 => Some(Release::R114),
+            115 => Some(Release::R115),
+            117 => Some(Release::R117),
+            118 => Some(Release::R118),
+            _ => None,
+        }
+    }
+
+    // The tagged edition as which a file begins.
+    fn of_tagged(f: &[u8]) -> Option<Release>
+        ensures { read_as result ≡ cond (begins r117 f.now) (Some r117) (cond (begins r118 f.now) (Some r118) None) }
+    {
+        if begins_with(f, b"<stata_dta><header><release>117</release>") {
+            Some(Release::R117)
+        } else if begins_with(f, b"<stata_dta><header><release>118</release>") {
+            Some(Release::R118)
+        } else {
+            None
+        }
+    }
+
+    // The edition as which a file begins.
+    pub fn of(f: &[u8]) -> Option<Release>
+        ensures { read_as result ≡ cond (known f.now) (Some (release_of f.now)) None }
+    {
+        match f {
+            [113, ..] => Some(Release::R113),
+            [114, ..] => Some(Release::R114),
+            [115, ..] => Some(Release::R115),
+            _ => Release::of_tagged(f),
+        }
+    }
+}
+
 // The numbers of the edition `number`, of 118 where it is none.
 pub fn numbers_of(number: u64) -> Edition
     ensures { numbers_of result ≡ edition (release_by number) }
 {
-    match number {
-        113 => row(113, false, 12),
-        114 => row(114, false, 49),
-        115 => row(115, false, 49),
-        117 => row(117, true, 49),
-        _ => row_118(),
-    }
+    Release::by_number(number)
+        .unwrap_or(Release::R118)
+        .numbers()
 }
 
 // Whether `number` is an edition that is read.
 pub fn is_release(number: u64) -> bool
     ensures { result ≡ is_release number }
 {
-    match number {
-        113 => true,
-        114 => true,
-        115 => true,
-        117 => true,
-        118 => true,
-        _ => false,
-    }
-}
-
-// The number of the tagged edition as which a file begins, 0 where it begins as none.
-fn tagged_release(f: &[u8]) -> u64
-    ensures { result ≡ cond (begins r117 f.now) 117 (cond (begins r118 f.now) 118 0) }
-{
-    if text::tag_at(f, 0, b"<stata_dta><header><release>117</release>", 2) == 0 {
-        return 117;
-    }
-    if text::tag_at(f, 0, b"<stata_dta><header><release>118</release>", 2) == 0 {
-        return 118;
-    }
-    0
-}
-
-// The number of the edition as which a file begins, 0 where it begins as none.
-pub fn release(f: &[u8]) -> u64
-    ensures { result ≡ cond (known f.now) (edition_of f.now).number 0 }
-{
-    if f.len() == 0 {
-        return 0;
-    }
-    match f[0] {
-        113 => 113,
-        114 => 114,
-        115 => 115,
-        _ => tagged_release(f),
-    }
+    Release::by_number(number).is_some()
 }
 
 // Whether the byte order is MSF: by the three bytes after <byteorder> in a tagged edition, else by byte 1.
@@ -119,13 +164,8 @@ pub fn is_msf(f: &[u8], tagged: bool) -> bool
     ensures { result ≡ is_msf tagged f.now }
 {
     if tagged {
-        if f.len() < 55 {
-            return false;
-        }
-        return text::same_at(f, 52, b"MSF");
+        f.len() >= 55 && text::same_at(f, 52, b"MSF")
+    } else {
+        f.len() >= 2 && f[1] == 1
     }
-    if f.len() < 2 {
-        return false;
-    }
-    f[1] == 1
 }

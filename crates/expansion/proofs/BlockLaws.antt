@@ -1,19 +1,21 @@
 -- Laws of expansion blocks and characteristics.
-use mathlib.Core.Path.{◌≡◌, refl, sym, ap, ◌∙◌, subst}
+use mathlib.Core.Path.{◌≡◌, refl, sym, ap, ◌∙◌}
 use Prim.Native.Nat.{ℕ, zero, suc, ◌+◌, ◌≤◌, ◌<◌}
 use native.Mathlib.Nat.{add-zero, zero-add}
 use native.Mathlib.Omega.{arith}
-use mathlib.Core.List.{List, [], ◌∷◌}
-use mathlib.Core.Bool.{Bool, true, false, cond, not, ◌&&◌, ◌||◌}
-use lib.ListN.{length, get_or, get_or-eq_default}
-use lib.Dec.{eqb, leb}
-use borrow.Author.Tests.{eqb-true, eqb-false, ne_eqb, leb-true, leb-false, not-true}
+use mathlib.Core.List.{List}
+use mathlib.Core.Bool.{Bool, true, false, not, ◌&&◌, ◌||◌}
+use lib.ListN.{length, get_or}
+use lib.Dec.{eqb}
+use borrow.Author.Tests.{eqb-true, eqb-false, not-true}
 use Rattle.format.specs.Number.{Order, msf, num}
-use Rattle.format.specs.Grammar.{Sect, also, unless, need, next, no_zero, same_at, seq, tag}
-use Rattle.format.specs.Edition.{kind_width, blocks_end, opening, closing, n_characteristics, n_ch}
+use Rattle.format.specs.Grammar.{Sect, also, unless, need, next, seq, tag}
+use Rattle.format.specs.Edition.{kind_width, opening, closing, n_characteristics, n_ch}
 use Rattle.format.specs.Expansion.{Expansion, expansion_next, expansion_head, expansion_body, expansion, expansions}
-use Rattle.format.proofs.Good.{and_left, and_right}
-use Rattle.section.specs.declared.Step.{Step}
+use Rattle.format.proofs.Good.{and_left}
+use Rattle.std.specs.Prelude.{Result, Ok, Err}
+use Rattle.refusal.specs.declared.Refusal.{Refusal}
+use Rattle.refusal.specs.declared.Refusal.TheVariants.{CutShort, WrongExpansion}
 use Rattle.section.specs.Judged.{Judged}
 use Rattle.section.proofs.StepLaws.{refused, need_short, need_there}
 use Rattle.expansion.specs.Parts.{contents_of, blocks}
@@ -35,9 +37,6 @@ kind_test : (t : Bool) (f : List ℕ) (p : ℕ) → (t || not (eqb (num msf (kin
 kind_test true f p = refl
 kind_test false f p = rw (one_byte f p)
 
-some : (n : ℕ) → suc n ≡ 0 → ⊥
-some n z = omega arith
-
 module _ (t : Bool) (o : Order) (f : List ℕ) (p : ℕ) where
   -- the length of the contents
   abbrev pub length_at : ℕ
@@ -51,9 +50,9 @@ module _ (t : Bool) (o : Order) (f : List ℕ) (p : ℕ) where
   unfolding expansion_head
   head_judge h = rw (need_there (kind_width t + 4) f p h)
 
-  head_right : p + (kind_width t + 4) ≤ length f → (expansion_head t o).judge f p ≡ 0 → Judged (expansion_head t o) f p (record { code = 0; at = p + (kind_width t + 4) })
+  head_right : p + (kind_width t + 4) ≤ length f → (expansion_head t o).judge f p ≡ 0 → Judged (expansion_head t o) f p (Ok (p + (kind_width t + 4)))
   unfolding expansion_head
-  head_right h e = record { code = sym e; ends = λ z. refl; inside = h }
+  head_right h e = record { code = sym e; ends = refl; inside = h }
 
   head_body : (expansion_body ((expansion_head t o).read f p).1).judge f (p + (kind_width t + 4)) ≡ need length_at f (p + (kind_width t + 4))
   unfolding expansion_head expansion_body
@@ -68,45 +67,33 @@ module _ (t : Bool) (o : Order) (f : List ℕ) (p : ℕ) where
   body_next = refl
 
   -- the answers, q being where the contents start and n their length
-  module _ (b : p ≤ length f) where
-    pub contents_short : length f < p + (kind_width t + 4) → Judged (contents_of t o) f p (record { code = 3; at = p })
-    contents_short h = seq_refused (expansion_head t o) (λ x. expansion_body x.1) f p _ (refused (expansion_head t o) f p 3 (sym (head_short h)) (some 2) b) (some 2)
+  pub contents_short : length f < p + (kind_width t + 4) → Judged (contents_of t o) f p (Err CutShort)
+  contents_short h = seq_refused (expansion_head t o) (λ x. expansion_body x.1) f p CutShort (refused (expansion_head t o) f p CutShort (sym (head_short h)))
 
-    module _ (h : p + (kind_width t + 4) ≤ length f) where
-      pub contents_zero : (not t && eqb (get_or f p 0) 0) ≡ true → Judged (contents_of t o) f p (record { code = 9; at = p })
-      contents_zero k =
-          seq_refused (expansion_head t o) (λ x. expansion_body x.1) f p _
-          (refused (expansion_head t o) f p 9 (sym (head_judge h ∙ ap (λ (y : Bool). unless y 9) (kind_test t f p ∙ ap not k))) (some 8) b) (some 8)
+  module _ (h : p + (kind_width t + 4) ≤ length f) where
+    judged : (z : Bool) → (not t && eqb (get_or f p 0) 0) ≡ z → (expansion_head t o).judge f p ≡ unless (not z) 9
+    judged z k = head_judge h ∙ ap (λ (y : Bool). unless y 9) (kind_test t f p ∙ ap not k)
 
-      module _ (k : (not t && eqb (get_or f p 0) 0) ≡ false) (q n : ℕ) (u : q ≡ p + (kind_width t + 4)) (v : n ≡ length_at) where
-        on_body : (r : Step) → Judged (expansion_body ((expansion_head t o).read f p).1) f (p + (kind_width t + 4)) r → Judged (contents_of t o) f p r
-        on_body r j =
-            seq_on (expansion_head t o) (λ x. expansion_body x.1) f p _
-            (head_right h (head_judge h ∙ ap (λ (y : Bool). unless y 9) (kind_test t f p ∙ ap not k))) refl r j
+    pub contents_zero : (not t && eqb (get_or f p 0) 0) ≡ true → Judged (contents_of t o) f p (Err WrongExpansion)
+    contents_zero k =
+        seq_refused (expansion_head t o) (λ x. expansion_body x.1) f p WrongExpansion (refused (expansion_head t o) f p WrongExpansion (sym (judged true k)))
 
-        pub contents_cut : length f < q + n → Judged (contents_of t o) f p (record { code = 3; at = p })
-        contents_cut l =
-            on_body _
-            (record {
-              code = sym (head_body ∙ need_short length_at f (p + (kind_width t + 4)) (rw (sym u, sym v) l));
-              ends = λ z. absurd (some 2 z);
-              inside = b;
-            })
+    module _ (k : (not t && eqb (get_or f p 0) 0) ≡ false) (q n : ℕ) (u : q ≡ p + (kind_width t + 4)) (v : n ≡ length_at) where
+      on_body : (r : Result ℕ Refusal) → Judged (expansion_body ((expansion_head t o).read f p).1) f (p + (kind_width t + 4)) r → Judged (contents_of t o) f p r
+      on_body r j = seq_on (expansion_head t o) (λ x. expansion_body x.1) f p _ (head_right h (judged false k)) r j
 
-        pub contents_right : q + n ≤ length f → Judged (contents_of t o) f p (record { code = 0; at = q + n })
-        contents_right l =
-            on_body _
-            (record {
-              code = sym (head_body ∙ need_there length_at f (p + (kind_width t + 4)) (rw (sym u, sym v) l));
-              ends = λ z. rw (u, v) (sym body_next);
-              inside = l;
-            })
+      pub contents_cut : length f < q + n → Judged (contents_of t o) f p (Err CutShort)
+      contents_cut l =
+          on_body _ (record { code = sym (head_body ∙ need_short length_at f (p + (kind_width t + 4)) (rw (sym u, sym v) l)); ends = tt; inside = tt })
 
--- ---- what ends the blocks
-
-pub end_by : (t : Bool) → cond (not t) (blocks_end false) [] ≡ blocks_end t
-end_by true = refl
-end_by false = refl
+      pub contents_right : q + n ≤ length f → Judged (contents_of t o) f p (Ok (q + n))
+      contents_right l =
+          on_body _
+          (record {
+            code = sym (head_body ∙ need_there length_at f (p + (kind_width t + 4)) (rw (sym u, sym v) l));
+            ends = rw (u, v) (sym body_next);
+            inside = l;
+          })
 
 -- ---- what the sections say
 
@@ -114,10 +101,10 @@ end_by false = refl
 abbrev pub block_rest : Bool → Order → Sect (Expansion × (Unit {0} × Unit {0}))
 block_rest t o = seq (expansion_head t o) λ h. seq (expansion_body h.1) λ c. tag (closing t n_ch) 4
 
-pub block_told : (t : Bool) (o : Order) (f : List ℕ) (p : ℕ) (r : Step) → Judged (seq (tag (opening t n_ch) 4) λ a. block_rest t o) f p r → Judged (expansion t o) f p r
+pub block_told : (t : Bool) (o : Order) (f : List ℕ) (p : ℕ) (r : Result ℕ Refusal) → Judged (seq (tag (opening t n_ch) 4) λ a. block_rest t o) f p r → Judged (expansion t o) f p r
 unfolding expansion tag
 block_told t o f p r j = record { code = j.code; ends = j.ends; inside = j.inside }
 
-pub list_told : (t : Bool) (o : Order) (f : List ℕ) (p : ℕ) (r : Step) → Judged (seq (tag (opening t n_characteristics) 4) λ a. blocks t o) f p r → Judged (expansions t o) f p r
+pub list_told : (t : Bool) (o : Order) (f : List ℕ) (p : ℕ) (r : Result ℕ Refusal) → Judged (seq (tag (opening t n_characteristics) 4) λ a. blocks t o) f p r → Judged (expansions t o) f p r
 unfolding expansions tag
 list_told t o f p r j = record { code = j.code; ends = j.ends; inside = j.inside }

@@ -7,7 +7,7 @@ ghost use Rattle.format.specs.Expansion.{expansion_next, expansion, expansions};
 ghost use Rattle.section.specs.Judged.{Judged};
 ghost use Rattle.expansion.specs.Parts.{contents_of, blocks, blocks_tail};
 
-use section::Step;
+use refusal::Refusal;
 
 // Whether a characteristic, or a block whose type is not 0, is next.
 fn block_next(f: &[u8], p: usize, tagged: bool) -> bool
@@ -15,12 +15,10 @@ fn block_next(f: &[u8], p: usize, tagged: bool) -> bool
     ensures { result ≡ expansion_next tagged f.now p }
 {
     if tagged {
-        return text::tag_at(f, p, b"<ch>", 4) == 0;
+        text::tag_at(f, p, b"<ch>", Refusal::WrongTag).is_ok()
+    } else {
+        p < f.len() && f[p] != 0
     }
-    if p == f.len() {
-        return false;
-    }
-    f[p] != 0
 }
 
 // The width of a block's type: a characteristic has none.
@@ -35,81 +33,65 @@ fn kind_zero(f: &[u8], p: usize, tagged: bool) -> bool
     requires { p < length f.now }
     ensures { result ≡ (not tagged && eqb (get_or f.now p 0) 0) }
 {
-    if tagged { false } else { f[p] == 0 }
+    !tagged && f[p] == 0
 }
 
 // Type, length and contents of a block.
-fn contents(f: &[u8], p: usize, tagged: bool, msf: bool) -> Step
+fn contents(f: &[u8], p: usize, tagged: bool, msf: bool) -> Result<usize, Refusal>
     requires { p ≤ length f.now }
     ensures { Judged (contents_of tagged (order_by msf)) f.now p result }
 {
     let k = kind_width(tagged);
     if f.len() - p < k + 4 {
-        return Step { code: 3, at: p };
+        return Err(Refusal::CutShort);
     }
     if kind_zero(f, p, tagged) {
-        return Step { code: 9, at: p };
+        return Err(Refusal::WrongExpansion);
     }
     let q = p + k + 4;
     let n = number::number(f, p + k, 4, msf) as usize;
     if f.len() - q < n {
-        return Step { code: 3, at: p };
+        return Err(Refusal::CutShort);
     }
-    Step { code: 0, at: q + n }
+    Ok(q + n)
 }
 
 // A block or a characteristic.
-fn block(f: &[u8], p: usize, tagged: bool, msf: bool) -> Step
+fn block(f: &[u8], p: usize, tagged: bool, msf: bool) -> Result<usize, Refusal>
     requires { p ≤ length f.now }
     ensures { Judged (expansion tagged (order_by msf)) f.now p result }
 {
-    let a = section::tag_if(f, p, b"<ch>", 4, tagged);
-    if a.code != 0 {
-        return a;
-    }
-    let s = contents(f, a.at, tagged, msf);
-    if s.code != 0 {
-        return s;
-    }
-    section::tag_if(f, s.at, b"</ch>", 4, tagged)
+    let start = section::tag_if(f, p, b"<ch>", Refusal::WrongTag, tagged)?;
+    let end = contents(f, start, tagged, msf)?;
+    section::tag_if(f, end, b"</ch>", Refusal::WrongTag, tagged)
 }
 
 // What ends the blocks, and the closing tag.
-fn tail(f: &[u8], p: usize, tagged: bool) -> Step
+fn tail(f: &[u8], p: usize, tagged: bool) -> Result<usize, Refusal>
     requires { p ≤ length f.now }
     ensures { Judged (blocks_tail tagged) f.now p result }
 {
-    let s = section::tag_if(f, p, b"\0\0\0\0\0", 9, !tagged);
-    if s.code != 0 {
-        return s;
-    }
-    section::tag_if(f, s.at, b"</characteristics>", 4, tagged)
+    let end = section::tag_if(f, p, b"\0\0\0\0\0", Refusal::WrongExpansion, !tagged)?;
+    section::tag_if(f, end, b"</characteristics>", Refusal::WrongTag, tagged)
 }
 
 // The blocks, and what follows them.
-fn block_list(f: &[u8], p: usize, tagged: bool, msf: bool) -> Step
+fn block_list(f: &[u8], p: usize, tagged: bool, msf: bool) -> Result<usize, Refusal>
     requires { p ≤ length f.now }
     ensures { Judged (blocks tagged (order_by msf)) f.now p result }
 {
     let mut q = p;
     while block_next(f, q, tagged) {
-        let s = block(f, q, tagged, msf);
-        if s.code != 0 {
-            return s;
-        }
-        q = s.at;
+        q = block(f, q, tagged, msf)?;
     }
     tail(f, q, tagged)
 }
 
 // The expansion blocks of an untagged edition, or the characteristics of a tagged one.
-pub fn expansion_list(f: &[u8], p: usize, tagged: bool, msf: bool) -> Step
+pub fn expansion_list(f: &[u8], p: usize, tagged: bool, msf: bool) -> Result<usize, Refusal>
     requires { p ≤ length f.now }
     ensures { Judged (expansions tagged (order_by msf)) f.now p result }
 {
-    let a = section::tag_if(f, p, b"<characteristics>", 4, tagged);
-    if a.code != 0 {
-        return a;
-    }
-    block_list(f, a.at, tagged, msf)
+    let at = section::tag_if(f, p, b"<characteristics>", Refusal::WrongTag, tagged)?;
+    block_list(f, at, tagged, msf)
 }

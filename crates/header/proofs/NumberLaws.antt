@@ -4,44 +4,48 @@ use Prim.Native.Nat.{ℕ, zero, suc, ◌+◌, ◌≤◌, ◌<◌}
 use native.Mathlib.Nat.{add-zero}
 use native.Mathlib.Omega.{arith}
 use mathlib.Core.List.{List}
-use mathlib.Core.Bool.{Bool, true, false, not}
+use mathlib.Core.Bool.{Bool, true, false}
 use lib.ListN.{length, get_or}
 use lib.Dec.{eqb}
 use borrow.Author.Tests.{eqb-true, eqb-false, eq-eqb, ne_eqb}
-use Rattle.format.specs.Number.{Order, num, tab}
-use Rattle.format.specs.Grammar.{Sect, unless, need, within, number, raw, ruled, seq, text_at, no_zero}
+use Rattle.std.specs.Prelude.{Result, Ok, Err}
+use Rattle.refusal.specs.declared.Refusal.{Refusal}
+use Rattle.refusal.specs.declared.Refusal.TheVariants.{CutShort, WrongHeader}
+use Rattle.format.specs.Number.{Order, tab}
+use Rattle.format.specs.Grammar.{Sect, unless, within, raw, ruled, seq, tag, between, text_at, no_zero}
 use Rattle.format.specs.Header.{counted}
-use Rattle.format.proofs.Good.{also_right, unless_true}
 use Rattle.format.proofs.SlotLaws.{length_tab}
-use Rattle.section.specs.declared.Step.{Step}
+use Rattle.format.proofs.StepLaws.{between_read}
 use Rattle.section.specs.Judged.{Judged}
 use Rattle.section.proofs.StepLaws.{refused, need_short, need_there}
-use Rattle.section.proofs.SeqLaws.{seq_refused, seq_on}
-use Rattle.header.specs.Rules.{rule, held}
+use Rattle.section.proofs.SeqLaws.{seq_refused, seq_on, tag_end}
+use Rattle.header.specs.declared.Rule.{Rule}
+use Rattle.header.specs.Rules.{holds, held}
+use Rattle.header.specs.Numbers.{Held, Valued}
 
 -- ---- a number with its rule
 
-module _ (o : Order) (w : ℕ) (s : Bool) (m : ℕ) (f : List ℕ) (p : ℕ) where
-  pub held_short : p ≤ length f → length f < p + w → Judged (held o w s m) f p (record { code = 3; at = p })
-  held_short b h = refused (held o w s m) f p 3 (rw (need_short w f p h)) (λ e. omega arith) b
+module _ {o : Order} {w : ℕ} {t : Rule} {f : List ℕ} {p : ℕ} where
+  pub held_refused : {e : Refusal} → Held o w t f p (Err e) → Judged (held o w t) f p (Err e)
+  held_refused h = record { code = h.code; ends = tt; inside = tt }
 
-  module _ (room : p + w ≤ length f) (n : ℕ) (e : n ≡ num o w f p) where
-    held_judge : (held o w s m).judge f p ≡ unless (rule s m n) 5
-    held_judge = rw (need_there w f p room, e)
+  pub held_judged : {n : ℕ} → Held o w t f p (Ok n) → Judged (held o w t) f p (Ok (p + w))
+  held_judged h = record { code = h.code; ends = refl; inside = h.room }
 
-    pub held_right : true ≡ rule s m n → Judged (held o w s m) f p (record { code = 0; at = p + w })
-    held_right h = record { code = sym (held_judge ∙ rw (sym h)); ends = λ z. refl; inside = room }
+-- a section's answer, with the number that it says
+pub no_value : {S : Sect ℕ} {f : List ℕ} {p : ℕ} {e : Refusal} → Judged S f p (Err e) → Valued S f p (Err e)
+no_value j = record { code = j.code; ends = tt; inside = tt; is = tt }
 
-    pub held_wrong : false ≡ rule s m n → Judged (held o w s m) f p (record { code = 5; at = p })
-    held_wrong h = refused (held o w s m) f p 5 (sym (held_judge ∙ rw (sym h))) (λ z. omega arith) (omega arith)
+pub refused_value : {S : Sect ℕ} {f : List ℕ} {p : ℕ} {e : Refusal} → Valued S f p (Err e) → Judged S f p (Err e)
+refused_value v = record { code = v.code; ends = tt; inside = tt }
 
-  -- where it is right, its bytes are there and its rule holds
-  module _ {r : Step} (j : Judged (held o w s m) f p r) (z : r.code ≡ 0) where
-    pub held_room : p + w ≤ length f
-    held_room = omega (arith, j.inside, j.ends z)
+pub judged_value : {S : Sect ℕ} {f : List ℕ} {p : ℕ} {v : ℕ × ℕ} → Valued S f p (Ok v) → Judged S f p (Ok v.0)
+judged_value v = record { code = v.code; ends = v.ends; inside = v.inside }
 
-    pub held_rule : rule s m (num o w f p) ≡ true
-    held_rule = unless_true (rule s m (num o w f p)) 5 (omega arith) (also_right (need w f p) (unless (rule s m (num o w f p)) 5) (sym j.code ∙ z))
+pub part_value : (l r : List ℕ) (S : Sect ℕ) (f : List ℕ) (p : ℕ) {a b n : ℕ} → Judged (tag l 4) f p (Ok a) → n ≡ S.read f a → Judged (between l r S) f p (Ok b)
+    → Valued (between l r S) f p (Ok (b, n))
+part_value l r S f p o e j =
+    record { code = j.code; ends = j.ends; inside = j.inside; is = e ∙ ap (λ (q : ℕ). S.read f q) (o.ends ∙ sym (tag_end l 4 f p)) ∙ sym (between_read l r S f p) }
 
 -- ---- bytes that are not zero
 
@@ -73,30 +77,29 @@ abbrev clean : ℕ → Sect (List ℕ)
 clean n = within n (ruled (raw n) no_zero 5)
 
 module _ (n : ℕ) (f : List ℕ) (q : ℕ) where
-  pub clean_short : q ≤ length f → length f < q + n → Judged (clean n) f q (record { code = 3; at = q })
-  clean_short b h = refused (clean n) f q 3 (rw (need_short n f q h)) (λ e. omega arith) b
+  pub clean_short : length f < q + n → Judged (clean n) f q (Err CutShort)
+  clean_short h = refused (clean n) f q CutShort (rw (need_short n f q h))
 
   module _ (room : q + n ≤ length f) where
     clean_judge : (clean n).judge f q ≡ unless (no_zero ((raw n).read f q)) 5
     clean_judge = rw (need_there n f q room)
 
-    pub clean_right : true ≡ no_zero ((raw n).read f q) → Judged (clean n) f q (record { code = 0; at = q + n })
+    pub clean_right : true ≡ no_zero ((raw n).read f q) → Judged (clean n) f q (Ok (q + n))
     clean_right h =
-        record { code = sym (clean_judge ∙ rw (sym h)); ends = λ z. ap (λ (x : ℕ). q + x) (sym (length_tab n (λ i. get_or f (q + i) 0))); inside = room }
+        record { code = sym (clean_judge ∙ rw (sym h)); ends = ap (λ (x : ℕ). q + x) (sym (length_tab n (λ i. get_or f (q + i) 0))); inside = room }
 
-    pub clean_wrong : false ≡ no_zero ((raw n).read f q) → Judged (clean n) f q (record { code = 5; at = q })
-    clean_wrong h = refused (clean n) f q 5 (sym (clean_judge ∙ rw (sym h))) (λ z. omega arith) (omega arith)
+    pub clean_wrong : false ≡ no_zero ((raw n).read f q) → Judged (clean n) f q (Err WrongHeader)
+    clean_wrong h = refused (clean n) f q WrongHeader (sym (clean_judge ∙ rw (sym h)))
 
 -- ---- a text with its length before it
 
-module _ (o : Order) (w : ℕ) (s : Bool) (m : ℕ) (f : List ℕ) (p : ℕ) where
-  by_parts : {r : Step} → Judged (seq (held o w s m) clean) f p r → Judged (counted o w (rule s m)) f p r
+module _ (o : Order) (w : ℕ) (t : Rule) (f : List ℕ) (p : ℕ) where
+  by_parts : {r : Result ℕ Refusal} → Judged (seq (held o w t) clean) f p r → Judged (counted o w (holds t)) f p r
   unfolding counted
   by_parts j = record { code = j.code; ends = j.ends; inside = j.inside }
 
-  module _ {a : Step} (j : Judged (held o w s m) f p a) where
-    pub length_refused : (a.code ≡ 0 → ⊥) → Judged (counted o w (rule s m)) f p a
-    length_refused n = by_parts (seq_refused (held o w s m) clean f p a j n)
+  pub length_refused : {e : Refusal} → Held o w t f p (Err e) → Judged (counted o w (holds t)) f p (Err e)
+  length_refused {e} h = by_parts (seq_refused (held o w t) clean f p e (held_refused h))
 
-    pub length_on : a.code ≡ 0 → (n : ℕ) → n ≡ num o w f p → {r : Step} → Judged (clean n) f a.at r → Judged (counted o w (rule s m)) f p r
-    length_on z n e {r} k = by_parts (seq_on (held o w s m) clean f p a j z r (subst (λ (x : ℕ). Judged (clean x) f a.at r) e k))
+  pub length_on : {n : ℕ} → Held o w t f p (Ok n) → {r : Result ℕ Refusal} → Judged (clean n) f (p + w) r → Judged (counted o w (holds t)) f p r
+  length_on h {r} k = by_parts (seq_on (held o w t) clean f p (p + w) (held_judged h) r (subst (λ (x : ℕ). Judged (clean x) f (p + w) r) h.is k))

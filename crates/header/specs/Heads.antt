@@ -1,8 +1,10 @@
 -- What reading a header asks and promises.
-use Rattle.std.specs.Prelude.{◌≡◌, List, true, ℕ, ◌≤◌, length}
+use Rattle.std.specs.Prelude.{◌≡◌, List, true, ℕ, ◌≤◌, length, Result, IfOk}
 use Rattle.format.specs.Grammar.{Sect, next, same_at}
 use Rattle.format.specs.Edition.{start}
 use Rattle.format.specs.Header as Format
+use Rattle.refusal.specs.declared.Refusal.{Refusal}
+use Rattle.refusal.specs.Refusals.{code_of}
 use Rattle.editions.specs.declared.Edition.{Edition}
 use Rattle.editions.specs.Editions.{numbers_of}
 use Rattle.header.specs.declared.Head.{Head}
@@ -15,16 +17,16 @@ pub record Begun (f : List ℕ) (e : Edition) : Type 0 where
   pub starts : same_at (start (numbers_of e)) f 0 ≡ true
   pub room : length (start (numbers_of e)) ≤ length f
 
--- r is the answer for the header S of f: its refusal number; where it is right, where it ends, K and N; and what holds in any case
-pub record Headed (S : Sect Format.Head) (f : List ℕ) (r : Head) : Type 0 where
-  pub code : r.code ≡ S.judge f 0
-  pub ends : r.code ≡ 0 → r.at ≡ next S f 0
-  pub inside : r.at ≤ length f
-  pub count : r.code ≡ 0 → r.k ≡ (S.read f 0).0
-  pub rows : r.code ≡ 0 → r.n ≡ (S.read f 0).1.0
-  pub few : r.k ≤ 32767
-  pub bounded : r.n ≤ 2147483647
+-- h is what the header S of f says, which is right
+pub record Says (S : Sect Format.Head) (f : List ℕ) (h : Head) : Type 0 where
+  pub ends : h.at ≡ next S f 0
+  pub inside : h.at ≤ length f
+  pub count : h.k ≡ (S.read f 0).0
+  pub rows : h.n ≡ (S.read f 0).1.0
+  pub few : h.k ≤ 32767
+  pub bounded : h.n ≤ 2147483647
 
--- the answer with the refusal number c
-abbrev pub refused_head : ℕ → Head
-refused_head c = record { code = c; at = 0; k = 0; n = 0 }
+-- r is the answer for the header S of f: its refusal; where it is right, what it says
+pub record Headed (S : Sect Format.Head) (f : List ℕ) (r : Result Head Refusal) : Type 0 where
+  pub code : code_of r ≡ S.judge f 0
+  pub says : IfOk r (Says S f)

@@ -1,51 +1,65 @@
 #![tactic(auto)]
 
-ghost use Rattle.std.specs.Prelude.{◌≡◌, true, false, ◌+◌, ◌≤◌, length};
+ghost use Rattle.std.specs.Prelude.{◌≡◌, true, false, ◌+◌, ◌≤◌, length, IfOk};
 ghost use Rattle.format.specs.Number.{order_by};
 ghost use Rattle.format.specs.Grammar.{lit, text, raw, no_zero, seq, tag, between};
 ghost use Rattle.format.specs.Edition.{opening, closing, order_mark, order_text, n_byteorder};
 ghost use Rattle.format.specs.Header.{counted, old_stamp, old_header, new_header, header};
+ghost use Rattle.refusal.specs.Refusals.{code_of};
 ghost use Rattle.editions.specs.Editions.{numbers_of};
 ghost use Rattle.section.specs.Judged.{Judged};
-ghost use Rattle.header.specs.Rules.{rule, rows_max, held, new_texts};
-ghost use Rattle.header.specs.Heads.{Begun, Headed, refused_head};
+ghost use Rattle.header.specs.declared.Rule.TheVariants.{Most};
+ghost use Rattle.header.specs.Rules.{holds, rows_max, held, new_texts};
+ghost use Rattle.header.specs.Numbers.{Held, Valued};
+ghost use Rattle.header.specs.Heads.{Begun, Headed};
 
-// The answer of a header: its refusal number, 0 where it is right; where what follows starts; K and N. All zeros but the number with
-// a refusal.
+use editions::Edition;
+use refusal::Refusal;
+use section::tag_if;
+
+// What a header says that is right: where what follows starts; K and N.
 #[derive(Clone, Copy)]
 pub struct Head {
-    pub code: u8,
     pub at: usize,
     pub k: usize,
     pub n: usize,
 }
 
-// Whether `n` is a stamp's length, or else at most `max`.
-fn holds(n: u64, max: u64, stamp: bool) -> bool
-    ensures { result ≡ rule stamp max n }
-{
-    if stamp {
-        if n == 0 {
-            return true;
+// A rule on a number.
+#[derive(Clone, Copy)]
+enum Rule {
+    // it is at most so much
+    Most(u64),
+    // it is a stamp's length
+    Stamp,
+}
+
+impl Rule {
+    // Whether `n` keeps to it.
+    fn holds(self, n: u64) -> bool
+        ensures { result ≡ holds self n }
+    {
+        match self {
+            Rule::Most(max) => n <= max,
+            Rule::Stamp => n == 0 || n == 17,
         }
-        return n == 17;
     }
-    n <= max
 }
 
 // A number of `w` bytes with its rule.
-fn held_number(f: &[u8], p: usize, w: usize, max: u64, stamp: bool, msf: bool) -> section::Step
+fn held_number(f: &[u8], p: usize, w: usize, rule: Rule, msf: bool) -> Result<u64, Refusal>
     requires { (p ≤ length f.now) × (w ≤ 8) }
-    ensures { Judged (held (order_by msf) w stamp max) f.now p result }
+    ensures { Held (order_by msf) w rule f.now p result }
 {
     if f.len() - p < w {
-        return section::Step { code: 3, at: p };
+        return Err(Refusal::CutShort);
     }
     let n = number::number(f, p, w, msf);
-    if holds(n, max, stamp) {
-        return section::Step { code: 0, at: p + w };
+    if rule.holds(n) {
+        Ok(n)
+    } else {
+        Err(Refusal::WrongHeader)
     }
-    section::Step { code: 5, at: p }
 }
 
 // Whether no byte of the `n` at `p` is zero.
@@ -57,53 +71,45 @@ fn no_zero(f: &[u8], p: usize, n: usize) -> bool
 }
 
 // A length of `w` bytes with its rule, then that many bytes, none zero.
-fn counted_text(f: &[u8], p: usize, w: usize, max: u64, stamp: bool, msf: bool) -> section::Step
+fn counted_text(f: &[u8], p: usize, w: usize, rule: Rule, msf: bool) -> Result<usize, Refusal>
     requires { (p ≤ length f.now) × (w ≤ 8) }
-    ensures { Judged (counted (order_by msf) w (rule stamp max)) f.now p result }
+    ensures { Judged (counted (order_by msf) w (holds rule)) f.now p result }
 {
-    let a = held_number(f, p, w, max, stamp, msf);
-    if a.code != 0 {
-        return a;
+    let n = held_number(f, p, w, rule, msf)? as usize;
+    let at = p + w;
+    if f.len() - at < n {
+        return Err(Refusal::CutShort);
     }
-    let n = number::number(f, p, w, msf) as usize;
-    if f.len() - a.at < n {
-        return section::Step { code: 3, at: a.at };
+    if no_zero(f, at, n) {
+        Ok(at + n)
+    } else {
+        Err(Refusal::WrongHeader)
     }
-    if no_zero(f, a.at, n) {
-        return section::Step {
-            code: 0,
-            at: a.at + n,
-        };
-    }
-    section::Step { code: 5, at: a.at }
 }
 
 // The byte order's three bytes at `p`.
-fn order_text(f: &[u8], p: usize, msf: bool) -> section::Step
+fn order_text(f: &[u8], p: usize, msf: bool) -> Result<usize, Refusal>
     requires { p ≤ length f.now }
     ensures { Judged (tag (order_text (order_by msf)) 5) f.now p result }
 {
     if msf {
-        section::tag_if(f, p, b"MSF", 5, true)
+        tag_if(f, p, b"MSF", Refusal::WrongHeader, true)
     } else {
-        section::tag_if(f, p, b"LSF", 5, true)
+        tag_if(f, p, b"LSF", Refusal::WrongHeader, true)
     }
 }
 
 // The byte order between its tags.
-fn order_part(f: &[u8], p: usize, msf: bool) -> section::Step
+fn order_part(f: &[u8], p: usize, msf: bool) -> Result<usize, Refusal>
     requires { p ≤ length f.now }
     ensures { Judged (between (opening true n_byteorder) (closing true n_byteorder) (tag (order_text (order_by msf)) 5)) f.now p result }
 {
-    let a = section::tag_if(f, p, b"<byteorder>", 4, true);
-    if a.code != 0 {
-        return a;
-    }
-    let b = order_text(f, a.at, msf);
-    section::closed(f, b.at, b.code, b"</byteorder>", true)
+    let a = tag_if(f, p, b"<byteorder>", Refusal::WrongTag, true)?;
+    let b = order_text(f, a, msf)?;
+    tag_if(f, b, b"</byteorder>", Refusal::WrongTag, true)
 }
 
-// A number of `w` bytes, at most `max`, between the tags `first` and `last`.
+// A number of `w` bytes, at most `max`, between the tags `first` and `last`: where it ends, and the number.
 fn number_part(
     f: &[u8],
     p: usize,
@@ -112,16 +118,14 @@ fn number_part(
     w: usize,
     max: u64,
     msf: bool,
-) -> section::Step
+) -> Result<(usize, u64), Refusal>
     requires { (p ≤ length f.now) × (w ≤ 8) }
-    ensures { Judged (between first.now last.now (held (order_by msf) w false max)) f.now p result }
+    ensures { (Valued (between first.now last.now (held (order_by msf) w (Most max))) f.now p result) × IfOk result (λ v. v.1 ≤ max) }
 {
-    let a = section::tag_if(f, p, first, 4, true);
-    if a.code != 0 {
-        return a;
-    }
-    let b = held_number(f, a.at, w, max, false, msf);
-    section::closed(f, b.at, b.code, last, true)
+    let a = tag_if(f, p, first, Refusal::WrongTag, true)?;
+    let n = held_number(f, a, w, Rule::Most(max), msf)?;
+    let b = tag_if(f, a + w, last, Refusal::WrongTag, true)?;
+    Ok((b, n))
 }
 
 // A text with its length before it, between the tags `first` and `last`.
@@ -131,85 +135,48 @@ fn counted_part(
     first: &[u8],
     last: &[u8],
     w: usize,
-    max: u64,
-    stamp: bool,
+    rule: Rule,
     msf: bool,
-) -> section::Step
+) -> Result<usize, Refusal>
     requires { (p ≤ length f.now) × (w ≤ 8) }
-    ensures { Judged (between first.now last.now (counted (order_by msf) w (rule stamp max))) f.now p result }
+    ensures { Judged (between first.now last.now (counted (order_by msf) w (holds rule))) f.now p result }
 {
-    let a = section::tag_if(f, p, first, 4, true);
-    if a.code != 0 {
-        return a;
-    }
-    let b = counted_text(f, a.at, w, max, stamp, msf);
-    section::closed(f, b.at, b.code, last, true)
+    let a = tag_if(f, p, first, Refusal::WrongTag, true)?;
+    let b = counted_text(f, a, w, rule, msf)?;
+    tag_if(f, b, last, Refusal::WrongTag, true)
 }
 
 // A tagged header from the label on; the label's length has `w` bytes and is at most `max`.
-fn new_texts(f: &[u8], p: usize, w: usize, max: u64, msf: bool) -> section::Step
+fn new_texts(f: &[u8], p: usize, w: usize, max: u64, msf: bool) -> Result<usize, Refusal>
     requires { (p ≤ length f.now) × (w ≤ 8) }
     ensures { Judged (new_texts (order_by msf) w max) f.now p result }
 {
-    let a = counted_part(f, p, b"<label>", b"</label>", w, max, false, msf);
-    if a.code != 0 {
-        return a;
-    }
-    let b = counted_part(f, a.at, b"<timestamp>", b"</timestamp>", 1, 17, true, msf);
-    if b.code != 0 {
-        return b;
-    }
-    section::tag_if(f, b.at, b"</header>", 4, true)
+    let a = counted_part(f, p, b"<label>", b"</label>", w, Rule::Most(max), msf)?;
+    let b = counted_part(f, a, b"<timestamp>", b"</timestamp>", 1, Rule::Stamp, msf)?;
+    tag_if(f, b, b"</header>", Refusal::WrongTag, true)
 }
 
 // The greatest N that `k` variables allow.
-fn rows_max(k: usize) -> u64
+fn rows_max(k: u64) -> u64
     ensures { result ≡ rows_max k }
 {
     if k == 0 { 0 } else { 2147483647 }
 }
 
-// The answer with the refusal number `c`.
-fn refusal(c: u8) -> Head
-    ensures { result ≡ refused_head c }
-{
-    Head {
-        code: c,
-        at: 0,
-        k: 0,
-        n: 0,
-    }
-}
-
 // The header of a tagged edition, after the tags of its start.
-fn new_header(f: &[u8], e: editions::Edition, msf: bool) -> Head
+fn new_header(f: &[u8], e: Edition, msf: bool) -> Result<Head, Refusal>
     requires { (Begun f.now e) × (e.tagged ≡ true) }
     ensures { Headed (new_header e.number (order_by msf) e.n_width e.label_length e.label_max) f.now result }
 {
-    let a = order_part(f, 41, msf);
-    if a.code != 0 {
-        return refusal(a.code);
-    }
-    let b = number_part(f, a.at, b"<K>", b"</K>", 2, 32767, msf);
-    if b.code != 0 {
-        return refusal(b.code);
-    }
-    let k = number::number(f, a.at + 3, 2, msf) as usize;
-    let c = number_part(f, b.at, b"<N>", b"</N>", e.n_width, rows_max(k), msf);
-    if c.code != 0 {
-        return refusal(c.code);
-    }
-    let n = number::number(f, b.at + 3, e.n_width, msf) as usize;
-    let d = new_texts(f, c.at, e.label_length, e.label_max as u64, msf);
-    if d.code != 0 {
-        return refusal(d.code);
-    }
-    Head {
-        code: 0,
-        at: d.at,
-        k: k,
-        n: n,
-    }
+    let a = order_part(f, 41, msf)?;
+    let (b, k) = number_part(f, a, b"<K>", b"</K>", 2, 32767, msf)?;
+    let (c, n) = number_part(f, b, b"<N>", b"</N>", e.n_width, rows_max(k), msf)?;
+    let at = new_texts(f, c, e.label_length, e.label_max as u64, msf)?;
+    Ok(Head {
+        at,
+        k: k as usize,
+        n: n as usize,
+    })
 }
 
 // The byte that tells the byte order in an untagged header.
@@ -219,85 +186,74 @@ fn order_mark(msf: bool) -> u8
     if msf { 1 } else { 2 }
 }
 
-// The refusal of an untagged header's byte order and file type.
-fn old_marks(f: &[u8], msf: bool) -> u8
+// An untagged header's byte order and file type.
+fn old_marks(f: &[u8], msf: bool) -> Result<(), Refusal>
     requires { 3 ≤ length f.now }
-    ensures { result ≡ (seq (lit (order_mark (order_by msf)) 5) (λ b. lit 1 5)).judge f.now 1 }
+    ensures { code_of result ≡ (seq (lit (order_mark (order_by msf)) 5) (λ b. lit 1 5)).judge f.now 1 }
 {
-    if f[1] == order_mark(msf) {
-        if f[2] == 1 {
-            return 0;
-        }
+    if f[1] == order_mark(msf) && f[2] == 1 {
+        Ok(())
+    } else {
+        Err(Refusal::WrongHeader)
     }
-    5
 }
 
-// The refusal of an old stamp at `q`.
-fn old_stamp(f: &[u8], q: usize) -> u8
+// An old stamp at `q`.
+fn old_stamp(f: &[u8], q: usize) -> Result<(), Refusal>
     requires { q + 18 ≤ length f.now }
-    ensures { result ≡ old_stamp.judge f.now q }
+    ensures { code_of result ≡ old_stamp.judge f.now q }
 {
-    let n = text::text_len(f, q, 17);
-    if holds(n as u64, 17, true) {
-        if f[q + 17] == 0 {
-            return 0;
-        }
+    let n = text::text_len(f, q, 17) as u64;
+    if Rule::Stamp.holds(n) && f[q + 17] == 0 {
+        Ok(())
+    } else {
+        Err(Refusal::WrongHeader)
     }
-    5
 }
 
-// The refusal of an old dataset label in `w` bytes at `q` and the stamp after it.
-fn old_texts(f: &[u8], q: usize, w: usize) -> u8
+// An old dataset label in `w` bytes at `q` and the stamp after it.
+fn old_texts(f: &[u8], q: usize, w: usize) -> Result<(), Refusal>
     requires { q + (w + 18) ≤ length f.now }
-    ensures { result ≡ (seq (text w 5) (λ l. old_stamp)).judge f.now q }
+    ensures { code_of result ≡ (seq (text w 5) (λ l. old_stamp)).judge f.now q }
 {
     if text::text_len(f, q, w) == w {
-        return 5;
+        return Err(Refusal::WrongHeader);
     }
     old_stamp(f, q + w)
 }
 
 // The header of an untagged edition.
-fn old_header(f: &[u8], e: editions::Edition, msf: bool) -> Head
+fn old_header(f: &[u8], e: Edition, msf: bool) -> Result<Head, Refusal>
     requires { (Begun f.now e) × (e.tagged ≡ false) }
     ensures { Headed (old_header e.number (order_by msf) e.n_width e.label_max) f.now result }
 {
     let w = e.label_max + 1;
-    let size = 6 + (e.n_width + (w + 18));
-    if f.len() < size {
-        return refusal(3);
+    let at = 6 + (e.n_width + (w + 18));
+    if f.len() < at {
+        return Err(Refusal::CutShort);
     }
-    let a = old_marks(f, msf);
-    if a != 0 {
-        return refusal(a);
-    }
-    let k = number::number(f, 4, 2, msf) as usize;
-    if 32767 < k {
-        return refusal(5);
-    }
+    old_marks(f, msf)?;
+    let k = number::number(f, 4, 2, msf);
     let n = number::number(f, 6, e.n_width, msf);
-    if rows_max(k) < n {
-        return refusal(5);
+    if k > 32767 || n > rows_max(k) {
+        return Err(Refusal::WrongHeader);
     }
-    let c = old_texts(f, 6 + e.n_width, w);
-    if c != 0 {
-        return refusal(c);
-    }
-    Head {
-        code: 0,
-        at: size,
-        k: k,
+    old_texts(f, 6 + e.n_width, w)?;
+    Ok(Head {
+        at,
+        k: k as usize,
         n: n as usize,
-    }
+    })
 }
 
 // The header of a file that begins as the edition `e` does.
-pub fn header(f: &[u8], e: editions::Edition, msf: bool) -> Head
+pub fn header(f: &[u8], e: Edition, msf: bool) -> Result<Head, Refusal>
     requires { Begun f.now e }
     ensures { Headed (header (numbers_of e) (order_by msf)) f.now result }
 {
     if e.tagged {
-        return new_header(f, e, msf);
+        new_header(f, e, msf)
+    } else {
+        old_header(f, e, msf)
     }
-    old_header(f, e, msf)
 }

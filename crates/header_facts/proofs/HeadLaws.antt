@@ -1,6 +1,6 @@
 -- Label and stamp of the header.
-use mathlib.Core.Path.{◌≡◌, sym, ap, ◌∙◌}
-use Prim.Native.Nat.{ℕ, suc, ◌+◌, ◌*◌, ◌-◌, ◌≤◌, ◌<◌}
+use mathlib.Core.Path.{◌≡◌, refl, sym, ap, ◌∙◌}
+use Prim.Native.Nat.{ℕ, suc, ◌+◌, ◌*◌}
 use native.Mathlib.Omega.{arith}
 use native.Mathlib.Nat.{zero-mul}
 use native.Mathlib.Numerals.{add-one}
@@ -10,48 +10,26 @@ use Rattle.format.specs.Number.{Order, order_by}
 use Rattle.format.specs.Edition.{Edition}
 use Rattle.format.specs.Dta.{Layout}
 use Rattle.editions.specs.Editions.{numbers_of}
-use Rattle.questions.specs.Ask.{ask_label, ask_stamp, answer_in, label_in, stamp_in, text_part, counted_part, new_label_place, part}
+use Rattle.questions.specs.Ask.{Question, count, answer_of, in_range, or_refused, ask_label, ask_stamp, answer_in, label_in, stamp_in, text_part, counted_part, new_label_place}
 use Rattle.reading.specs.declared.Opened.{Opened}
 use Rattle.header_facts.specs.Header.{new_stamp}
-use lib.ListN.{length}
-use Rattle.questions.specs.Readings.{none, got, number_in}
-use Rattle.reading.specs.declared.Read.{Read}
-use Rattle.reading.specs.Reads.{read_by, NumberRead, place_in}
-use Rattle.reading.proofs.ReadLaws.{read_got, read_none, room_got, room_none, number_nowhere, place_is, number_there}
+use Rattle.questions.specs.Readings.{Try, none, got, bind}
+use Rattle.std.specs.Prelude.{Result}
+use Rattle.refusal.specs.declared.Refusal.{Refusal}
+use Rattle.answers.specs.Answers.{number_by}
+use Rattle.reading.proofs.AnswerLaws.{answer_in_lem}
+use Rattle.reading.specs.Reads.{edition_in}
 
--- ---- a length and its bytes
+-- ---- numbers
 
-module _ (o : Order) (w : ℕ) (f : List ℕ) (p : ℕ) {n : Read} (N : NumberRead o w f p n) where
-  pub counted_none : n.there ≡ false → counted_part o w f p ≡ none
-  counted_none h = rw (read_none n (number_in o w f p) N.is h)
-
-  module _ (h : n.there ≡ true) where
-    pub counted_inside : p + w ≤ length f
-    counted_inside = number_there o w f p n N.is h
-
-    pub counted_cut : length f - (p + w) < n.value → counted_part o w f p ≡ none
-    counted_cut k =
-        let i = counted_inside in
-        rw (read_got n (number_in o w f p) N.is h, room_none f (p + w) n.value (omega arith))
-
-    pub counted_got : n.value ≤ length f - (p + w) → counted_part o w f p ≡ got (part (p + w) n.value)
-    counted_got k =
-        let i = counted_inside in
-        rw (read_got n (number_in o w f p) N.is h, room_got f (p + w) n.value (omega arith))
-
-  -- the stamp after a label
-  pub stamp_none : n.there ≡ false → new_stamp o w f p ≡ none
-  stamp_none h = rw (read_none n (number_in o w f p) N.is h)
-
-  module _ (h : n.there ≡ true) (a : Read) (A : a ≡ read_by (place_in f (p + w + n.value + 19))) where
-    stamp_at : new_stamp o w f p ≡ counted_part o 1 f (p + w + n.value + 19)
-    stamp_at = rw (read_got n (number_in o w f p) N.is h)
-
-    pub stamp_past : a.there ≡ false → new_stamp o w f p ≡ none
-    stamp_past k = stamp_at ∙ rw (number_nowhere f (p + w + n.value + 19) a A o 1 k)
-
-    pub stamp_there : a.there ≡ true → counted_part o 1 f a.value ≡ new_stamp o w f p
-    stamp_there k = ap (counted_part o 1 f) (place_is f (p + w + n.value + 19) a A k) ∙ sym stamp_at
+-- the number that a layout answers, where its edition and order are read
+pub number_told : (l : Layout) (q : Question) (v : ℕ) → in_range l q ≡ true → ((e : Edition) (o : Order) (f : List ℕ) → answer_in e o f l q ≡ got (count v))
+    → (r : Result ℕ Refusal) → r ≡ number_by (or_refused (bind (edition_in l.release l.order) λ y. got (count v))) → (f : List ℕ) → r ≡ number_by (answer_of f l q)
+number_told l q v i a r h f = h ∙ ap number_by (same (edition_in l.release l.order) ∙ sym (answer_in_lem f l q i))
+  where
+    same : (t : Try (Edition × Order)) → or_refused (bind t λ y. got (count v)) ≡ or_refused (bind t λ y. answer_in y.0 y.1 f l q)
+    same none = refl
+    same (got y) = ap or_refused (sym (a y.0 y.1 f))
 
 -- ---- where they stand
 

@@ -1,6 +1,6 @@
 -- The label words of a cell.
 use mathlib.Core.Path.{◌≡◌, refl, sym, ap, ◌∙◌}
-use Prim.Native.Nat.{ℕ, zero, suc, ◌+◌, ◌-◌, ◌≤◌, ◌<◌}
+use Prim.Native.Nat.{ℕ, zero, suc, ◌+◌, ◌≤◌, ◌<◌}
 use native.Mathlib.Omega.{arith}
 use mathlib.Core.List.{List, [], ◌∷◌}
 use mathlib.Core.Bool.{Bool, true, false, cond, false≢true}
@@ -8,7 +8,7 @@ use lib.ListN.{length, get_or, take, drop}
 use lib.Seq.{drop-cons}
 use lib.Dec.{eqb}
 use lib.IntN.{ℤ}
-use borrow.Author.Tests.{le-ltb, lt-ltb, ne_eqb, eq-eqb, eqb-true, eqb-false}
+use borrow.Author.Tests.{le-ltb, lt-ltb}
 use Rattle.format.specs.Number.{Order, order_by}
 use Rattle.format.specs.Grammar.{text_at}
 use Rattle.format.specs.Edition.{Edition, n_value_label_names, n_value_labels}
@@ -16,7 +16,7 @@ use Rattle.format.specs.Variables.{nonempty}
 use Rattle.format.specs.Cells.{Says, Key, nothing, seeks, key_of}
 use Rattle.format.specs.Dta.{Layout}
 use Rattle.questions.specs.Readings.{Try, none, got, bind}
-use Rattle.questions.specs.Ask.{Labels, unlabelled, labelled, Answer, refused, count, mark, typed, part, column, labels, cell, plain, long, or_refused, slice, blocks_in, set_in, labels_in, sought_in, set_words, start_of, end_of, field_place, among, in_range, answer_of, ask_table, ask_cell, ask_words}
+use Rattle.questions.specs.Ask.{Labels, unlabelled, labelled, Answer, refused, part, labels, plain, or_refused, slice, blocks_in, set_in, labels_in, sought_in, set_words, start_of, end_of, field_place, among, in_range, answer_of, ask_table, ask_cell, ask_words}
 use Rattle.questions.proofs.LendLaws.{lend, lend_is}
 use Rattle.questions.proofs.EachLaws.{each_asked}
 use Rattle.editions.specs.Editions.{numbers_of}
@@ -25,16 +25,23 @@ use Rattle.reading.specs.declared.Opened.{Opened}
 use Rattle.reading.specs.Reads.{length_in, opened_by, edition_in}
 use Rattle.reading.proofs.ReadLaws.{text_past}
 use Rattle.reading.proofs.AnswerLaws.{answer_out, answer_open}
-use Rattle.cells.specs.declared.Said.{Said}
+use Rattle.answers.specs.Answers.{opened_if}
+use Rattle.answers.proofs.TellLaws.{tells_open}
 use Rattle.cells.specs.Cells.{said_by}
-use Rattle.cells.proofs.AfterLaws.{after_refused, after_said}
+use Rattle.cells.proofs.AfterLaws.{After, after_refused, after_said}
 use Rattle.walks.specs.declared.LabelSet.{LabelSet}
-use Rattle.walks.specs.declared.Words.{Words}
+use Rattle.answers.specs.declared.Part.{Part}
+use Rattle.cell.specs.declared.Cell.{Cell}
+use Rattle.refusal.specs.declared.Refusal.{Refusal}
+use Rattle.refusal.specs.declared.Refusal.TheVariants.{NotThere}
+use Rattle.refusal.specs.Refusals.{number_of}
+use Rattle.std.specs.Prelude.{Option, None, Some, Result, Ok, Err}
+use Rattle.std.proofs.lemmas.Option.{none-some, same_Some}
 use Rattle.walks.specs.Answers.{words_by, set_by}
-use Rattle.walks.specs.Walks.{table_words, set_says, set_place, ended_by, block_labels}
+use Rattle.walks.specs.Walks.{table_words, ended_by, all_ended, block_labels}
 use Rattle.walks.proofs.EndedLaws.{set_ended}
 use Rattle.walks.proofs.TextLaws.{TextGot, text_none, text_got}
-use Rattle.label_words.specs.Words.{set_said, sought_words, cell_words}
+use Rattle.label_words.specs.Words.{set_said, placed_in, said_in, sought_words, cell_words}
 
 -- a text's bytes, as many as it has
 pub text_slice : (w : ℕ) (f : List ℕ) (p : ℕ) → p + length (text_at w f p) ≤ length f → take (length (text_at w f p)) (drop p f) ≡ text_at w f p
@@ -116,97 +123,98 @@ module _ (e : Edition) (o : Order) (f : List ℕ) (l : Layout) (i : ℕ) where
       set_over b = set_walk ∙ block_over e.tagged e.name_width o f (slice f a n) k p b
 
 -- the set of an answer, and of another that is the same
-pub set_as : (r : LabelSet) (a b : Answer) → r ≡ set_by a → b ≡ a → r ≡ set_by b
+pub set_as : (r : Result (Option LabelSet) Refusal) (a b : Answer) → r ≡ set_by a → b ≡ a → r ≡ set_by b
 set_as r a b e h = e ∙ ap set_by (sym h)
 
--- ---- the set of a variable
-
-module _ (f : List ℕ) (l : Layout) (i : ℕ) (q : Opened) (Q : q ≡ opened_by (edition_in l.release l.order)) where
-  -- in an edition and a byte order that are read
-  pub set_open : in_range l (ask_table i) ≡ true → q.there ≡ true → answer_of f l (ask_table i) ≡ set_said (numbers_of q.e) (order_by q.msf) f l i
-  unfolding set_said
-  set_open n h = answer_open f l (ask_table i) q Q n h
+-- the set of a variable, in an edition and a byte order that are read
+pub set_told : (f : List ℕ) (l : Layout) (i : ℕ) (q : Opened) → Ok q ≡ opened_if (in_range l (ask_table i)) (edition_in l.release l.order)
+    → {r : Result (Option LabelSet) Refusal} → r ≡ set_by (set_said (numbers_of q.e) (order_by q.msf) f l i) → r ≡ set_by (answer_of f l (ask_table i))
+unfolding set_said
+set_told f l i q Q e = tells_open f l (ask_table i) q Q set_by _ refl e
 
 -- ---- a value in a set
 
 module _ (o : Order) (f : List ℕ) (v : ℤ) where
-  found_words : (r : Try Labels) → set_says o f (set_by (or_refused (bind r λ x. got (labels x)))) v ≡ or_refused (bind r (labels_in o f [] v))
+  found_words : (r : Try Labels) → said_in o f (set_by (or_refused (bind r λ x. got (labels x)))) v ≡ words_by (or_refused (bind r (labels_in o f [] v)))
   unfolding table_words
   found_words none = refl
   found_words (got unlabelled) = refl
   found_words (got (labelled p n)) = refl
 
-  set_words_lem : (e : Edition) (l : Layout) (i : ℕ) → set_says o f (set_by (set_said e o f l i)) v ≡ or_refused (set_words e o f l i [] v)
+  set_words_lem : (e : Edition) (l : Layout) (i : ℕ) → said_in o f (set_by (set_said e o f l i)) v ≡ words_by (or_refused (set_words e o f l i [] v))
   unfolding set_said
   set_words_lem e l i = found_words (set_in e o f l i)
 
 -- ---- the words of a cell
 
-module _ (g : ℤ → Answer) (c : Said) where
-  pub cell_refused : (c.code ≡ 0 → ⊥) → cell_words g c ≡ refused c.code
-  cell_refused z = rw (ne_eqb c.code 0 z)
-
-  -- what is sought
-  pub cell_sought : c.code ≡ 0 → (k : Key) → k ≡ key_of (says c.cell) → cell_words g c ≡ sought_words g k
-  cell_sought z k h = rw (eq-eqb c.code 0 z) (ap (sought_words g) (sym h))
+-- what is sought
+pub cell_sought : (g : ℤ → Result (Option Part) Refusal) (c : Cell) (k : Key) → k ≡ key_of (says c) → sought_words g k ≡ cell_words g c
+cell_sought g c k h = ap (sought_words g) h
 
 -- they are what stands at their place, up to its end
-module _ (o : Order) (f : List ℕ) (s : LabelSet) where
-  sought_ended : (k : Key) → words_by (sought_words (set_says o f s) k) ≡ ended_by f (words_by (sought_words (set_place o f s) k))
+module _ (o : Order) (f : List ℕ) where
+  sought_ended : (s : Result (Option LabelSet) Refusal) (k : Key) → sought_words (said_in o f s) k ≡ all_ended f (sought_words (placed_in o f s) k)
   unfolding ended_by
-  sought_ended nothing = refl
-  sought_ended (seeks q) = set_ended o f s q
+  sought_ended s nothing = refl
+  sought_ended (Ok s) (seeks q) = set_ended o f s q
+  sought_ended (Err e) (seeks q) = refl
 
-  pub cell_ended : (c : Said) → words_by (cell_words (set_says o f s) c) ≡ ended_by f (words_by (cell_words (set_place o f s) c))
-  unfolding ended_by
-  cell_ended c = go (eqb c.code 0) refl
-    where
-      go : (b : Bool) → eqb c.code 0 ≡ b → words_by (cell_words (set_says o f s) c) ≡ ended_by f (words_by (cell_words (set_place o f s) c))
-      go true b = rw b (sought_ended (key_of (says c.cell)))
-      go false b = rw b
+  pub cell_ended : (s : Result (Option LabelSet) Refusal) (c : Cell) → all_ended f (cell_words (placed_in o f s) c) ≡ cell_words (said_in o f s) c
+  cell_ended s c = sym (sought_ended s (key_of (says c)))
 
 -- of a cell and a set that are those of the layout
-module _ (f : List ℕ) (l : Layout) (i j : ℕ) (q : Opened) (Q : q ≡ opened_by (edition_in l.release l.order))
-    (c : Said) (C : c ≡ said_by (answer_of f l (ask_cell i j))) (s : LabelSet) (S : s ≡ set_by (answer_of f l (ask_table i))) where
-  abbrev o : Order
-  o = order_by q.msf
-
-  abbrev e : Edition
-  e = numbers_of q.e
-
+module _ (f : List ℕ) (l : Layout) (i j : ℕ) (s : Result (Option LabelSet) Refusal) (S : s ≡ set_by (answer_of f l (ask_table i))) where
   abbrev then : Edition → Order → Says → Try Answer
   then e o c = sought_in (key_of c) [] (set_words e o f l i [])
 
-  -- the variable is there, where the cell says something
-  there : c.code ≡ 0 → in_range l (ask_table i) ≡ true
-  there z = go (among i l.variables) refl
-    where
-      go : (b : Bool) → among i l.variables ≡ b → among i l.variables ≡ true
-      go true b = b
-      go false b = absurd (omega (arith, z, ap (λ (x : Said). x.code) (C ∙ ap said_by (answer_out f l (ask_cell i j) (rw b)))))
+  -- a refused cell
+  pub words_refused : (d : Refusal) → Err d ≡ said_by (answer_of f l (ask_cell i j)) → Err d ≡ words_by (answer_of f l (ask_words i j []))
+  words_refused d D = after_refused f l i j (ask_words i j []) then refl (λ e o. refl) words_by (λ n. refl) d D
 
-  words_sought : (k : Key) → q.there ≡ true → in_range l (ask_table i) ≡ true → sought_words (set_says o f s) k ≡ or_refused (sought_in k [] (set_words e o f l i []))
-  words_sought nothing h n = refl
-  words_sought (seeks v) h n = ap (λ (x : LabelSet). set_says o f x v) (S ∙ ap set_by (set_open f l i q Q n h)) ∙ set_words_lem o f v e l i
+  module _ (c : Cell) (C : Ok c ≡ said_by (answer_of f l (ask_cell i j))) where
+    A : After f l i j (ask_words i j []) then refl (λ e o. refl) c
+    A = after_said f l i j (ask_words i j []) then refl (λ e o. refl) c C
 
-  pub words_are : cell_words (set_says o f s) c ≡ answer_of f l (ask_words i j [])
-  words_are = go (eqb c.code 0) refl
-    where
-      go : (b : Bool) → eqb c.code 0 ≡ b → cell_words (set_says o f s) c ≡ answer_of f l (ask_words i j [])
-      go false b =
-          let z = eqb-false c.code 0 b in
-          cell_refused (set_says o f s) c z ∙ after_refused f l i j q Q (ask_words i j []) then refl (λ e o. refl) C z
-      go true b =
-          let z = eqb-true c.code 0 b in
-          let A = after_said f l i j q Q (ask_words i j []) then refl (λ e o. refl) C z in
-          cell_sought (set_says o f s) c z (key_of (says c.cell)) refl ∙ words_sought (key_of (says c.cell)) A.0 (there z) ∙ sym A.1
+    -- edition and order are read, where the cell says something
+    pub words_opened : None ≡ opened_by (edition_in l.release l.order) → ⊥
+    words_opened n = none-some A.opened (n ∙ sym A.read)
+
+    module _ (q : Opened) (Q : Some q ≡ opened_by (edition_in l.release l.order)) where
+      same : A.opened ≡ q
+      same = same_Some A.opened q (A.read ∙ sym Q)
+
+      -- the variable is there
+      there : in_range l (ask_table i) ≡ true
+      there = go (among i l.variables) refl
+        where
+          go : (b : Bool) → among i l.variables ≡ b → among i l.variables ≡ true
+          go true b = b
+          go false b = let k : Ok c ≡ Err NotThere = C ∙ ap said_by (answer_out f l (ask_cell i j) (rw b)) in absurd (false≢true (cc k))
+
+      -- in an edition and a byte order that are read
+      set_open : set_by (answer_of f l (ask_table i)) ≡ set_by (set_said (numbers_of q.e) (order_by q.msf) f l i)
+      unfolding set_said
+      set_open = ap set_by (answer_open f l (ask_table i) there q Q)
+
+      sought : (k : Key) → sought_words (said_in (order_by q.msf) f s) k ≡ words_by (or_refused (sought_in k [] (set_words (numbers_of q.e) (order_by q.msf) f l i [])))
+      sought nothing = refl
+      sought (seeks v) = ap (λ (x : Result (Option LabelSet) Refusal). said_in (order_by q.msf) f x v) (S ∙ set_open) ∙ set_words_lem (order_by q.msf) f v (numbers_of q.e) l i
+
+      pub words_are : cell_words (said_in (order_by q.msf) f s) c ≡ words_by (answer_of f l (ask_words i j []))
+      words_are =
+          sought (key_of (says c))
+          ∙ ap (λ (y : Opened). words_by (or_refused (then (numbers_of y.e) (order_by y.msf) (says c)))) (sym same)
+          ∙ ap words_by (sym A.is)
 
 -- ---- for every lent text
 
 -- what label words mean with the lent text t
-abbrev pub words_of : List ℕ → Words → Answer
-words_of t r = cond (eqb r.code 0) (cond r.found (part r.at r.len) (plain t)) (refused r.code)
+abbrev pub words_of : List ℕ → Result (Option Part) Refusal → Answer
+words_of t (Ok (Some r)) = part r.at r.len
+words_of t (Ok None) = plain t
+words_of t (Err e) = refused (number_of e)
 
-pub words_lent : (f : List ℕ) (l : Layout) (i j : ℕ) (r : Words) → r ≡ words_by (answer_of f l (ask_words i j [])) → (t : List ℕ) → words_of t r ≡ answer_of f l (ask_words i j t)
+pub words_lent : (f : List ℕ) (l : Layout) (i j : ℕ) (r : Result (Option Part) Refusal) → r ≡ words_by (answer_of f l (ask_words i j [])) → (t : List ℕ)
+    → words_of t r ≡ answer_of f l (ask_words i j t)
 words_lent f l i j r e t =
     ap (words_of t) e ∙ each_asked (λ a. words_of t (words_by a) ≡ lend t a) f l (ask_words i j []) refl refl ((λ p n. refl), refl) ∙ sym (lend_is t f l i j)

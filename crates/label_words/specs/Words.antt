@@ -1,22 +1,36 @@
 -- Label sets and label words, as code finds them.
-use Rattle.std.specs.Prelude.{ℕ, List, [], cond, eqb, ℤ}
+use Rattle.std.specs.Prelude.{ℕ, List, ℤ, Option, None, Result, Ok, Err}
 use Rattle.format.specs.Number.{Order}
 use Rattle.format.specs.Edition.{Edition}
 use Rattle.format.specs.Cells.{Key, nothing, seeks, key_of}
 use Rattle.format.specs.Dta.{Layout}
-use Rattle.questions.specs.Ask.{Answer, refused, plain, or_refused, answer_in, ask_table}
+use Rattle.questions.specs.Ask.{Answer, or_refused, answer_in, ask_table}
 use Rattle.cell.specs.Cells.{says}
-use Rattle.cells.specs.declared.Said.{Said}
+use Rattle.cell.specs.declared.Cell.{Cell}
+use Rattle.refusal.specs.declared.Refusal.{Refusal}
+use Rattle.answers.specs.declared.Part.{Part}
+use Rattle.walks.specs.declared.LabelSet.{LabelSet}
+use Rattle.walks.specs.Answers.{words_by}
+use Rattle.walks.specs.Walks.{set_place, set_says}
 
 -- the label table of variable i, in an edition and a byte order that are read
 unfoldable pub set_said : Edition → Order → List ℕ → Layout → ℕ → Answer
 set_said e o f l i = or_refused (answer_in e o f l (ask_table i))
 
+-- where the words for the value q in a label set stand, and the words: the set's refusal, or the answer
+abbrev pub placed_in : Order → List ℕ → Result (Option LabelSet) Refusal → ℤ → Result (Option Part) Refusal
+placed_in o f (Ok s) q = words_by (set_place o f s q)
+placed_in o f (Err e) q = Err e
+
+abbrev pub said_in : Order → List ℕ → Result (Option LabelSet) Refusal → ℤ → Result (Option Part) Refusal
+said_in o f (Ok s) q = words_by (set_says o f s q)
+said_in o f (Err e) q = Err e
+
 -- the answer for what is sought, g being that for a value: the plain text where nothing is
-abbrev pub sought_words : (ℤ → Answer) → Key → Answer
-sought_words g nothing = plain []
+abbrev pub sought_words : (ℤ → Result (Option Part) Refusal) → Key → Result (Option Part) Refusal
+sought_words g nothing = Ok None
 sought_words g (seeks q) = g q
 
--- the answer for a cell that says c: its refusal, or that for what it seeks
-abbrev pub cell_words : (ℤ → Answer) → Said → Answer
-cell_words g c = cond (eqb c.code 0) (sought_words g (key_of (says c.cell))) (refused c.code)
+-- the answer for a cell that says c: that for what it seeks
+abbrev pub cell_words : (ℤ → Result (Option Part) Refusal) → Cell → Result (Option Part) Refusal
+cell_words g c = sought_words g (key_of (says c))

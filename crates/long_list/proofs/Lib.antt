@@ -1,5 +1,4 @@
 pub mod ListsLaws
-pub mod OpenLaws
 pub mod TellLaws
 pub mod LongLaws
 pub mod LongsAt

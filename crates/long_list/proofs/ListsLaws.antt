@@ -10,7 +10,12 @@ use borrow.Author.Tests.{eq-eqb, ne_eqb, le-leb, lt-leb}
 use Rattle.format.specs.Dta.{verdict}
 use Rattle.format.specs.Grammar.{Sect, also, unless}
 use Rattle.writing.specs.Writes.{Puts, Stand}
-use Rattle.long_list.specs.declared.Listed.{Listed}
+use Rattle.std.specs.Prelude.{Result, Ok, Err}
+use Rattle.refusal.specs.declared.Refusal.{Refusal}
+use Rattle.refusal.specs.Refusals.{number_of}
+use Rattle.section.proofs.StepLaws.{some_number}
+use Rattle.long_list.specs.declared.Untold.{Untold}
+use Rattle.long_list.specs.declared.Untold.TheVariants.{Refused, NoRoom}
 use Rattle.long_list.specs.Lists.{list_code, Lists}
 use Rattle.long_list.specs.Told.{ToldRoom, ToldCount, ToldPut}
 
@@ -22,24 +27,25 @@ also_refused (suc v) b n = refl
 code_by : (f t d : List ℕ) (b : Bool) → verdict f ≡ 0 → leb (length t) (length d) ≡ b → list_code f t (length d) ≡ unless b 14
 code_by f t d b v e = λ i. also (v i) (unless (e i) 14)
 
-module _ {f t d : List ℕ} {r : Listed} where
-  pub lists_refused : r.code ≡ verdict f → (r.code ≡ 0 → ⊥) → r.count ≡ 0 → Lists f t d d r
-  lists_refused c n z =
-      let k = also_refused (verdict f) (unless (leb (length t) (length d)) 14) (λ h. n (c ∙ h)) in
-      let b : eqb (verdict f) 0 ≡ false = ne_eqb (verdict f) 0 (λ h. n (c ∙ h)) in
-      record { code = c ∙ sym k; count = rw b z; out = rw (k, b) }
+module _ {f t d : List ℕ} where
+  pub lists_refused : {e : Refusal} → number_of e ≡ verdict f → Lists f t d d (Err (Refused e))
+  lists_refused {e} c =
+      let n : verdict f ≡ 0 → ⊥ = λ (h : verdict f ≡ 0). some_number e (c ∙ h) in
+      let k = also_refused (verdict f) (unless (leb (length t) (length d)) 14) n in
+      let b : eqb (verdict f) 0 ≡ false = ne_eqb (verdict f) 0 n in
+      record { code = c ∙ sym k; count = rw b; out = rw (k, b) }
 
-  pub lists_short : verdict f ≡ 0 → r.code ≡ 14 → r.count ≡ length t → length d < length t → Lists f t d d r
-  lists_short v c n h =
+  pub lists_short : {n : ℕ} → verdict f ≡ 0 → n ≡ length t → length d < length t → Lists f t d d (Err (NoRoom n))
+  lists_short v e h =
       let k = code_by f t d false v (lt-leb (length t) (length d) h) in
-      record { code = c ∙ sym k; count = rw (eq-eqb (verdict f) 0 v) n; out = rw k }
+      record { code = sym k; count = rw (eq-eqb (verdict f) 0 v) e; out = rw k }
 
-  pub lists_done : {w : List ℕ} {m : ℕ} → verdict f ≡ 0 → r.code ≡ 0 → r.count ≡ length t → length t ≤ length d → Puts t d w m → Lists f t d w r
-  lists_done v c n h p =
+  pub lists_done : {w : List ℕ} {n m : ℕ} → verdict f ≡ 0 → n ≡ length t → length t ≤ length d → Puts t d w m → Lists f t d w (Ok n)
+  lists_done v e h p =
       let k = code_by f t d true v (le-leb (length t) (length d) h) in
       record {
-        code = c ∙ sym k;
-        count = rw (eq-eqb (verdict f) 0 v) n;
+        code = sym k;
+        count = rw (eq-eqb (verdict f) 0 v) e;
         out = rw k (p.is ∙ ap (λ (x : ℕ). t ++ drop x d) p.long);
       }
 
@@ -51,8 +57,8 @@ module _ {A : Type 0} {E : Sect A} {F : ℕ → List A → List ℕ} {f t : List
   pub counted_room : {m : ℕ} → n ≤ m → ToldRoom E F f p q m
   counted_room h = record { list = l; stand = s; room = omega (arith, c.all l s) }
 
-  pub counted_short : {d : List ℕ} → verdict f ≡ 0 → length d < n → Lists f t d d (record { code = 14; count = n })
-  counted_short {d} v h = lists_short v refl count_is (omega (arith, count_is))
+  pub counted_short : {d : List ℕ} → verdict f ≡ 0 → length d < n → Lists f t d d (Err (NoRoom n))
+  counted_short {d} v h = lists_short v count_is (omega (arith, count_is))
 
-  pub counted_done : {d w : List ℕ} {m : ℕ} → verdict f ≡ 0 → n ≤ length d → ToldPut E F f p q d w m → Lists f t d w (record { code = 0; count = n })
-  counted_done {d} {w} {m} v h x = lists_done v refl count_is (omega (arith, count_is)) (subst (λ (y : List ℕ). Puts y d w m) e (x.all l s))
+  pub counted_done : {d w : List ℕ} {m : ℕ} → verdict f ≡ 0 → n ≤ length d → ToldPut E F f p q d w m → Lists f t d w (Ok n)
+  counted_done {d} {w} {m} v h x = lists_done v count_is (omega (arith, count_is)) (subst (λ (y : List ℕ). Puts y d w m) e (x.all l s))

@@ -1,4 +1,3 @@
-pub mod Opens
 pub mod Lists
 pub mod Told
 pub mod Longs

@@ -6,79 +6,25 @@ ghost use Rattle.std.specs.Prelude.{◌≡◌, ◌+◌, ◌≤◌, length};
 ghost use Rattle.format.specs.Number.{order_by};
 ghost use Rattle.format.specs.Data.{long_record};
 ghost use Rattle.writing.specs.Writes.{Puts};
-ghost use Rattle.long_list.specs.Opens.{not_opened, Opens};
+ghost use Rattle.long_list.specs.declared.Untold.TheVariants.{Refused};
 ghost use Rattle.long_list.specs.Lists.{Lists};
 ghost use Rattle.long_list.specs.Told.{ToldRoom, ToldCount, ToldPut};
 ghost use Rattle.long_list.specs.Longs.{longs_from, longs_of, long_read};
 
-use editions::Edition;
-use sources::Source;
+use refusal::Refusal;
 
-// A file as a list takes it: its refusal number; where it is 0, the numbers of its edition, whether its byte order is MSF, and where the
-// contents of its parts stand.
+// Why a list is not told: the file is refused; or there is no room for it, and then how many numbers it has.
 #[derive(Clone, Copy)]
-pub struct Opening {
-    pub code: u8,
-    pub e: Edition,
-    pub msf: bool,
-    pub source: Source,
+pub enum Untold {
+    Refused(Refusal),
+    NoRoom(usize),
 }
 
-// The answer of a list: the file's refusal number, else 14 where the slice is shorter than the list; and how many numbers the list has, 0 where
-// the file is refused.
-#[derive(Clone, Copy)]
-pub struct Listed {
-    pub code: u8,
-    pub count: u64,
-}
+impl From<Refusal> for Untold {
+    ghost from_gives = { λ r u. u ≡ Refused r };
 
-// A file of which no parts are told.
-fn not_opened(code: u8, e: Edition, msf: bool) -> Opening
-    ensures { result ≡ not_opened code e msf }
-{
-    Opening {
-        code,
-        e,
-        msf,
-        source: Source {
-            k: 0,
-            n: 0,
-            types: 0,
-            names: 0,
-            sort: 0,
-            formats: 0,
-            sets: 0,
-            labels: 0,
-            rows: 0,
-            longs: 0,
-            longsend: 0,
-            blocks: 0,
-            blocksend: 0,
-            lat: 0,
-            llen: 0,
-            sat: 0,
-            slen: 0,
-        },
-    }
-}
-
-// Checks a file, and finds its parts; a refusal's number alone, as the layout is zeros then.
-pub fn opened(f: &[u8]) -> Opening
-    ensures { Opens f.now result }
-{
-    let c = checking::check(f);
-    let l = c.layout;
-    let x = reading::edition_in(l.edition, l.order);
-    let e = x.e;
-    if c.code != 0 {
-        return not_opened(c.code, e, x.msf);
-    }
-    let source = sources::source_of(f, l, e, x.msf);
-    Opening {
-        code: 0,
-        e,
-        msf: x.msf,
-        source,
+    fn from(refusal: Refusal) -> Untold {
+        Untold::Refused(refusal)
     }
 }
 
@@ -136,26 +82,16 @@ fn put_longs(
     to
 }
 
-// The long strings of a file in file order, five numbers each: v, o, kind, place and length of the contents. An `out` with no room for all of
-// them is left as it came (14).
-pub fn long_list(f: &[u8], out: &mut [u64]) -> Listed
+// The long strings of a file in file order, five numbers each: v, o, kind, place and length of the contents. Gives how many numbers; an `out` with
+// no room for all of them is left as it came.
+pub fn long_list(f: &[u8], out: &mut [u64]) -> Result<usize, Untold>
     ensures { Lists f.now (longs_of f.now) out.old out.new result }
 {
-    let x = opened(f);
-    if x.code != 0 {
-        return Listed {
-            code: x.code,
-            count: 0,
-        };
-    }
-    let e = x.e;
-    let s = x.source;
-    let n = longs_count(f, s.longs, s.longsend, e.tagged, x.msf, e.record_width);
+    let s = sources::opened(f)?;
+    let e = s.edition;
+    let n = longs_count(f, s.longs, s.longsend, e.tagged, s.msf, e.record_width);
     if out.len() < n {
-        return Listed {
-            code: 14,
-            count: n as u64,
-        };
+        return Err(Untold::NoRoom(n));
     }
     put_longs(
         &mut out[..],
@@ -163,11 +99,8 @@ pub fn long_list(f: &[u8], out: &mut [u64]) -> Listed
         s.longs,
         s.longsend,
         e.tagged,
-        x.msf,
+        s.msf,
         e.record_width,
     );
-    Listed {
-        code: 0,
-        count: n as u64,
-    }
+    Ok(n)
 }

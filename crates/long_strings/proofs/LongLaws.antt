@@ -1,5 +1,5 @@
 -- The long string of a cell.
-use mathlib.Core.Path.{◌≡◌, refl, sym, ap, ◌∙◌, subst}
+use mathlib.Core.Path.{◌≡◌, refl, sym, ap, ◌∙◌}
 use Prim.Native.Nat.{ℕ, ◌≤◌, ◌<◌}
 use mathlib.Core.List.{List}
 use mathlib.Core.Bool.{Bool, true, false, cond, ◌&&◌}
@@ -7,9 +7,12 @@ use lib.ListN.{length}
 use lib.Dec.{eqb}
 use Rattle.format.specs.Number.{Order}
 use Rattle.format.specs.Edition.{Edition, n_strls}
-use lib.IntN.{ℤ}
-use lib.Ieee.{Float}
-use Rattle.format.specs.Cells.{Says, whole, single, double, letter, between, outside, words, reference}
+use Rattle.format.specs.Cells.{Says, reference}
+use Rattle.cell.specs.declared.Cell.{Cell}
+use Rattle.cell.specs.declared.Cell.TheVariants as Variants
+use Rattle.cell.specs.Cells.{says}
+use Rattle.std.specs.Prelude.{Result, Ok}
+use Rattle.refusal.specs.declared.Refusal.{Refusal}
 use Rattle.format.specs.Dta.{Layout}
 use Rattle.questions.specs.Readings.{got}
 use Rattle.questions.specs.Ask.{Answer, refused, long, or_refused, long_by, start_of, end_of}
@@ -19,7 +22,7 @@ use Rattle.walks.specs.Walks.{records_from}
 use Rattle.walks.proofs.RecordLaws.{from_past, from_out}
 use Rattle.long_strings.specs.Longs.{long_said}
 
-pub long_alone : (a b : Answer) (r : Long) → r ≡ Walks.long_by b → b ≡ a → r ≡ Walks.long_by a
+pub long_alone : (a b : Answer) (r : Result Long Refusal) → r ≡ Walks.long_by b → b ≡ a → r ≡ Walks.long_by a
 long_alone a b r e h = e ∙ ap Walks.long_by h
 
 module _ (e : Edition) (o : Order) (f : List ℕ) (l : Layout) where
@@ -44,33 +47,16 @@ module _ (e : Edition) (o : Order) (f : List ℕ) (l : Layout) where
 
 -- what the other cells mean
 module _ (e : Edition) (o : Order) (f : List ℕ) (l : Layout) where
-  pub long_whole : (z : ℤ) → long 0 0 0 ≡ long_said e o f l (whole z)
+  pub long_none : (c : Cell) → ((v x : ℕ) → c ≡ Variants.Reference v x → ⊥) → Ok (record { kind = 0; at = 0; len = 0 }) ≡ Walks.long_by (long_said e o f l (says c))
   unfolding long_said
-  long_whole z = refl
-
-  pub long_single : (x : Float) → long 0 0 0 ≡ long_said e o f l (single x)
-  unfolding long_said
-  long_single x = refl
-
-  pub long_double : (x : Float) → long 0 0 0 ≡ long_said e o f l (double x)
-  unfolding long_said
-  long_double x = refl
-
-  pub long_letter : (k : ℕ) → long 0 0 0 ≡ long_said e o f l (letter k)
-  unfolding long_said
-  long_letter k = refl
-
-  pub long_between : long 0 0 0 ≡ long_said e o f l between
-  unfolding long_said
-  long_between = refl
-
-  pub long_outside : long 0 0 0 ≡ long_said e o f l outside
-  unfolding long_said
-  long_outside = refl
-
-  pub long_words : (p n : ℕ) → long 0 0 0 ≡ long_said e o f l (words p n)
-  unfolding long_said
-  long_words p n = refl
+  long_none (Variants.Whole n) h = refl
+  long_none (Variants.Single x) h = refl
+  long_none (Variants.Double x) h = refl
+  long_none (Variants.Letter k) h = refl
+  long_none Variants.Between h = refl
+  long_none Variants.Outside h = refl
+  long_none (Variants.Text p n) h = refl
+  long_none (Variants.Reference v x) h = absurd (h v x refl)
 
 -- ---- after the cell
 

@@ -1,26 +1,26 @@
 -- Laws of the map.
 use mathlib.Core.Path.{◌≡◌, refl, sym, ap, ◌∙◌}
 use Prim.Native.Nat.{ℕ, zero, suc, ◌+◌, ◌-◌, ◌*◌, ◌≤◌, ◌<◌}
-use native.Mathlib.Nat.{sub-zero}
+use native.Mathlib.Nat.{add-zero}
 use native.Mathlib.Numerals.{add-one}
 use native.Mathlib.Omega.{arith}
 use mathlib.Core.List.{List, [], ◌∷◌}
-use mathlib.Core.Bool.{Bool, true, false, cond, ◌&&◌}
-use lib.ListN.{length, get_or, drop, drop_of_length-le}
+use mathlib.Core.Bool.{Bool, true, false, cond}
+use lib.ListN.{length, get_or, drop}
 use lib.Seq.{drop-cons}
-use lib.Dec.{eqb}
 use borrow.Author.Tests.{eq-eqb, ne_eqb}
-use Rattle.format.specs.Number.{Order, msf, num}
+use Rattle.format.specs.Number.{Order, num}
 use Rattle.format.specs.Grammar.{Sect, next, number, within, times, read_times, judge_times, between, tag}
 use Rattle.format.specs.Edition.{map_count, opening, closing, n_map}
 use Rattle.format.specs.Variables.{file_map}
 use Rattle.format.specs.Dta.{same_list}
 use Rattle.format.proofs.StepLaws.{times_next, between_read}
-use Rattle.map.specs.Maps.{positions_at}
-use Rattle.section.specs.declared.Step.{Step}
+use Rattle.map.specs.Maps.{MapJudged, positions_at}
+use Rattle.std.specs.Prelude.{Result, Ok, Err}
+use Rattle.refusal.specs.declared.Refusal.{Refusal}
 use Rattle.section.specs.Judged.{Judged}
-use Rattle.section.specs.Parts.{Opened, Closed}
-use Rattle.section.proofs.PartLaws.{open_refused, open_room, close_judged, part_by}
+use Rattle.section.specs.Parts.{Opened}
+use Rattle.section.proofs.PartLaws.{open_refused, close_judged, part_by}
 
 -- positions are never refused
 numbers_judge : (o : Order) (n : ℕ) (f : List ℕ) (p : ℕ) → 0 ≡ judge_times (number o 8) n f p
@@ -37,39 +37,31 @@ module _ (t : Bool) (f : List ℕ) (p : ℕ) where
   abbrev pub positions : Order → Sect (List ℕ)
   positions o = times (number o 8) (map_count t)
 
-  told : (o : Order) (s : Step) → Judged (between l r (within (map_count t * 8) (positions o))) f p s → Judged (file_map t o) f p s
+  told : (o : Order) (s : Result ℕ Refusal) → Judged (between l r (within (map_count t * 8) (positions o))) f p s → Judged (file_map t o) f p s
   unfolding file_map
   told o s j = part_by t n_map _ f p s j
 
-  module _ {a : Step} (h : Opened l (map_count t * 8) f p a) where
-    pub map_refused : (a.code ≡ 0 → ⊥) → (o : Order) → Judged (file_map t o) f p a
-    map_refused z o = told o a (open_refused l r (map_count t * 8) (positions o) f p h z)
+  pub map_refused : (e : Refusal) → Opened l (map_count t * 8) f p (Err e) → MapJudged t f p (Err e)
+  map_refused e h o = told o (Err e) (open_refused l r (map_count t * 8) (positions o) f p e h)
 
-    module _ (z : a.code ≡ 0) where
-      pub map_room : a.at + map_count t * 8 ≤ length f
-      map_room = open_room l r (map_count t * 8) (positions msf) f p h z
+  module _ {a : ℕ} (h : Opened l (map_count t * 8) f p (Ok a)) where
+    pub map_closed : (s : Result ℕ Refusal) → Judged (tag r 4) f (a + map_count t * 8) s → MapJudged t f p s
+    map_closed s k o =
+        told o s
+        (close_judged l r (map_count t * 8) (positions o) f p h (a + map_count t * 8) s (numbers_judge o (map_count t) f a)
+        (sym (times_next (number o 8) 8 (λ x. refl) (map_count t) f a)) k)
 
-      pub map_closed : (s : Step) → Closed r f (a.at + map_count t * 8) 0 s → (o : Order) → Judged (file_map t o) f p s
-      map_closed s k o =
-          told o s
-          (close_judged l r (map_count t * 8) (positions o) f p h z 0 (a.at + map_count t * 8) s (numbers_judge o (map_count t) f a.at)
-          (sym (times_next (number o 8) 8 (λ x. refl) (map_count t) f a.at)) k)
+-- ---- the positions at p, and the places, from the i-th on
 
--- ---- the positions from q on and the places from i on, n of each
+module _ (o : Order) (f d : List ℕ) (p : ℕ) where
+  abbrev pub same_from : ℕ → Bool
+  same_from i = same_list (read_times (number o 8) (length d - i) f (p + i * 8)) (drop i d)
 
-module _ (o : Order) (f d : List ℕ) where
-  abbrev pub same_from : ℕ → ℕ → Bool
-  same_from i q = same_list (read_times (number o 8) (length d - i) f q) (drop i d)
-
-  pub same_all : (q : ℕ) → length d ≡ 14 → same_from 0 q ≡ same_list (positions_at o f q) d
+  pub same_all : length d ≡ 14 → same_from 0 ≡ same_list (positions_at o f p) d
   unfolding positions_at
-  same_all q h = ap (λ (n : ℕ). same_list (read_times (number o 8) n f q) d) (sub-zero (length d) ∙ h)
+  same_all h = rw (h, add-zero)
 
-  -- no more
-  pub same_none : (i q : ℕ) → length d ≤ i → true ≡ same_from i q
-  same_none i q h = let e : length d - i ≡ 0 = omega arith in rw (e, drop_of_length-le d h)
-
-  module _ (i q : ℕ) (b : i < length d) where
+  module _ (i : ℕ) (b : i < length d) where
     left : length d - i ≡ suc (length d - (i + 1))
     left = omega arith
 
@@ -77,11 +69,13 @@ module _ (o : Order) (f d : List ℕ) where
     rest = drop-cons d i 0 b ∙ ap (λ (k : ℕ). get_or d i 0 ∷ drop k d) (sym (add-one i))
 
     -- they differ; or they are the same, and the rest decides
-    pub same_stop : (num o 8 f q ≡ get_or d i 0 → ⊥) → false ≡ same_from i q
-    same_stop n = rw (left, rest, ne_eqb (num o 8 f q) (get_or d i 0) n)
+    pub same_stop : (num o 8 f (p + i * 8) ≡ get_or d i 0 → ⊥) → false ≡ same_from i
+    same_stop n = rw (left, rest, ne_eqb (num o 8 f (p + i * 8)) (get_or d i 0) n)
 
-    pub same_turn : num o 8 f q ≡ get_or d i 0 → same_from (i + 1) (q + 8) ≡ same_from i q
-    same_turn e = rw (left, rest, eq-eqb (num o 8 f q) (get_or d i 0) e)
+    pub same_turn : num o 8 f (p + i * 8) ≡ get_or d i 0 → same_from (i + 1) ≡ same_from i
+    same_turn e =
+        let q : p + (i + 1) * 8 ≡ p + i * 8 + 8 = omega arith in
+        rw (q, left, rest, eq-eqb (num o 8 f (p + i * 8)) (get_or d i 0) e)
 
 -- ---- the whole map
 

@@ -8,7 +8,7 @@ ghost use Rattle.format.specs.Variables.{file_map};
 ghost use Rattle.format.specs.Dta.{same_list};
 ghost use Rattle.map.specs.Maps.{MapJudged, positions_at};
 
-use section::Step;
+use refusal::Refusal;
 
 // The bytes of the map's positions.
 fn map_size(tagged: bool) -> usize
@@ -18,16 +18,13 @@ fn map_size(tagged: bool) -> usize
 }
 
 // The map: fourteen positions, whatever they are; an untagged edition has none.
-pub fn map_list(f: &[u8], p: usize, tagged: bool) -> Step
+pub fn map_list(f: &[u8], p: usize, tagged: bool) -> Result<usize, Refusal>
     requires { p ≤ length f.now }
     ensures { MapJudged tagged f.now p result }
 {
     let n = map_size(tagged);
-    let a = section::opened(f, p, b"<map>", tagged, n);
-    if a.code != 0 {
-        return a;
-    }
-    section::closed(f, a.at + n, 0, b"</map>", tagged)
+    let at = section::opened(f, p, b"<map>", tagged, n)?;
+    section::tag_if(f, at + n, b"</map>", Refusal::WrongTag, tagged)
 }
 
 // Whether the fourteen positions at `p` are these places.
@@ -35,14 +32,10 @@ fn map_same(f: &[u8], p: usize, places: [u64; 14], msf: bool) -> bool
     requires { (p + 112 ≤ length f.now) × (length places ≡ 14) }
     ensures { result ≡ same_list (positions_at (order_by msf) f.now p) places }
 {
-    let mut q = p;
-    let mut i: usize = 0;
-    while i < 14 {
-        if number::number(f, q, 8, msf) != places[i] {
+    for i in 0..14 {
+        if number::number(f, p + i * 8, 8, msf) != places[i] {
             return false;
         }
-        q += 8;
-        i += 1;
     }
     true
 }
@@ -52,9 +45,5 @@ pub fn map_right(f: &[u8], p: usize, tagged: bool, places: [u64; 14], msf: bool)
     requires { (next (file_map tagged (order_by msf)) f.now p ≤ length f.now) × (length places ≡ 14) }
     ensures { result ≡ same_list ((file_map tagged (order_by msf)).read f.now p) (cond tagged places []) }
 {
-    if tagged {
-        map_same(f, p + 5, places, msf)
-    } else {
-        true
-    }
+    !tagged || map_same(f, p + 5, places, msf)
 }

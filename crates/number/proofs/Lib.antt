@@ -1,3 +1,3 @@
-pub mod HalfLaws
+pub mod DigitLaws
 pub mod SwapLaws
 pub mod WriteLaws

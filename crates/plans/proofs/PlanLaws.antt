@@ -1,6 +1,6 @@
 -- Positions and sizes.
-use mathlib.Core.Path.{◌≡◌, refl, sym, ap, ◌∙◌, subst}
-use Prim.Native.Nat.{ℕ, zero, suc, ◌+◌, ◌*◌, ◌≤◌}
+use mathlib.Core.Path.{◌≡◌, refl, sym, ap, ◌∙◌}
+use Prim.Native.Nat.{ℕ, suc, ◌+◌, ◌*◌, ◌≤◌}
 use native.Mathlib.Nat.{mul-le-mul_left, mul-le-mul_right, suc-mul, zero-mul}
 use native.Mathlib.Numerals.{add-one}
 use native.Mathlib.Omega.{arith}
@@ -8,15 +8,14 @@ use mathlib.Core.List.{List, [], ◌∷◌}
 use mathlib.Core.Bool.{Bool, true, false, cond}
 use lib.ListN.{length}
 use Rattle.format.specs.Slot.{Bytes}
-use Rattle.format.specs.Number.{Order, order_by}
-use Rattle.format.specs.Grammar.{Sect, sizes, AllRight, within, text, times, row, row_size, RowRight, row_width, tag, between, done}
-use Rattle.format.specs.Edition.{Edition, code_width, map_count, blocks_end, opening, closing, n_map, n_variable_types, n_varnames, n_sortlist, n_formats, n_value_label_names, n_variable_labels, n_characteristics, n_data, n_strls, n_value_labels, n_stata_dta}
-use Rattle.format.specs.Header.{header}
+use Rattle.format.specs.Number.{Order}
+use Rattle.format.specs.Grammar.{Sect, sizes, AllRight, text, row, row_size, RowRight, row_width, tag, between}
+use Rattle.format.specs.Edition.{Edition, code_width, map_count, opening, closing, n_map, n_variable_types, n_varnames, n_sortlist, n_formats, n_value_label_names, n_variable_labels, n_data, n_strls, n_value_labels, n_stata_dta}
 use Rattle.format.specs.Variables.{VarType, text_type, strl_type, byte_type, int_type, long_type, float_type, double_type, type_code, types, name, names, sort_list, fields}
 use Rattle.format.specs.Expansion.{expansions}
 use Rattle.format.specs.Data.{Cell, cell, cell_width, observations, long_record, strls}
-use Rattle.format.specs.Labels.{block, blocks}
-use Rattle.format.specs.Dta.{Dataset, head_of, dataset_of, edition_of, order_of, contents, verdict, positions, sums, part_sizes}
+use Rattle.format.specs.Labels.{block}
+use Rattle.format.specs.Dta.{Dataset, dataset_of, edition_of, order_of, contents, verdict, positions, sums, part_sizes}
 use Rattle.format.proofs.PartLaws.{SectionsRight}
 use Rattle.editions.specs.Editions.{numbers_of}
 use Rattle.editions.specs.declared.Edition as Code

@@ -1,19 +1,18 @@
 -- The sizes that code counts are the dataset's.
-use mathlib.Core.Path.{◌≡◌, refl, sym, ap, ◌∙◌, subst}
-use Prim.Native.Nat.{ℕ, zero, suc, ◌+◌, ◌*◌, ◌≤◌}
+use mathlib.Core.Path.{◌≡◌, sym, ap, ◌∙◌}
+use Prim.Native.Nat.{ℕ, ◌+◌, ◌*◌, ◌≤◌}
 use native.Mathlib.Omega.{arith}
 use mathlib.Core.List.{List, [], ◌∷◌}
-use mathlib.Core.Bool.{Bool, true, false, cond}
+use mathlib.Core.Bool.{Bool, true, false}
 use lib.ListN.{length}
 use Rattle.format.specs.Slot.{Bytes}
 use Rattle.format.specs.Number.{Order, msf, lsf, order_by}
-use Rattle.format.specs.Grammar.{Sect, all_slots, sizes, AllRight, row_width, read_times, tag, between}
+use Rattle.format.specs.Grammar.{all_slots, sizes, AllRight, row_width, tag, between}
 use Rattle.format.specs.Edition.{Edition, code_width}
 use Rattle.format.specs.Header.{Head, old_stamp, old_header, counted, new_facts, new_header, header_by, header}
-use Rattle.format.specs.Variables.{VarType, type_code}
-use Rattle.format.specs.Data.{cell_width, LongString, long_record}
-use Rattle.format.specs.Labels.{LabelBlock, block, table_size}
-use Rattle.format.specs.Dta.{Dataset, head_of, dataset_of, release_of, edition_of, verdict}
+use Rattle.format.specs.Data.{cell_width, long_record}
+use Rattle.format.specs.Labels.{LabelBlock, block}
+use Rattle.format.specs.Dta.{Dataset, head_of, dataset_of, release_of}
 use Rattle.format.proofs.FileLaws.{sound}
 use Rattle.format.proofs.SlotLaws.{fits_bound}
 use Rattle.format.proofs.Good.{all_sized}
@@ -22,7 +21,7 @@ use Rattle.data.specs.Places.{off_at}
 use Rattle.data.proofs.PlaceLaws.{width_is}
 use Rattle.editions.specs.Editions.{numbers_of}
 use Rattle.editions.specs.declared.Edition as Code
-use Rattle.writing.specs.Writes.{Stand, Room}
+use Rattle.writing.specs.Writes.{Room}
 use Rattle.write_header.specs.Parts.{HeaderSize}
 use Rattle.write_strls.specs.Records.{RecordsSize}
 use Rattle.write_strls.proofs.RoomLaws.{sizes_twice, stand_inside}

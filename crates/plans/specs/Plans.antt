@@ -1,8 +1,8 @@
 -- Where the parts of a dataset stand when it is written.
-use Rattle.std.specs.Prelude.{◌≡◌, ℕ, suc, ◌+◌, ◌*◌, ◌≤◌, List, [], ◌∷◌, Bool, cond}
+use Rattle.std.specs.Prelude.{◌≡◌, ℕ, suc, ◌+◌, ◌*◌, ◌≤◌, List, [], ◌∷◌, cond}
 use Rattle.format.specs.Number.{Order}
-use Rattle.format.specs.Grammar.{Sect, sizes, row_width}
-use Rattle.format.specs.Edition.{Edition, code_width}
+use Rattle.format.specs.Grammar.{sizes, row_width}
+use Rattle.format.specs.Edition.{code_width}
 use Rattle.format.specs.Header.{header}
 use Rattle.format.specs.Data.{cell_width, long_record}
 use Rattle.format.specs.Labels.{block}
@@ -10,7 +10,6 @@ use Rattle.format.specs.Dta.{head_of, dataset_of, positions}
 use Rattle.editions.specs.declared.Edition as Code
 use Rattle.editions.specs.Editions.{numbers_of}
 use Rattle.plans.specs.declared.Sizes.{Sizes}
-use Rattle.plans.specs.declared.Plan.{Plan}
 
 -- r says how many bytes the parts of the dataset of f have whose size is not K times a width: header, rows, long strings, label
 -- blocks, the last three without their part's tags
@@ -47,5 +46,5 @@ sizes_by e k z =
     ∷ []
 
 -- r are the positions of the dataset of f, as the edition to has it in either byte order
-pub record Planned (f : List ℕ) (to : Code.Edition) (r : Plan) : Type 0 where
-  pub is : (o : Order) → r.places ≡ positions (numbers_of to) o (dataset_of f, [])
+pub record Planned (f : List ℕ) (to : Code.Edition) (r : List ℕ) : Type 0 where
+  pub is : (o : Order) → r ≡ positions (numbers_of to) o (dataset_of f, [])

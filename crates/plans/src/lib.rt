@@ -3,7 +3,7 @@
 ghost use Rattle.std.specs.Prelude.{◌≡◌, cond, ◌+◌, ◌*◌, ◌≤◌};
 ghost use Rattle.format.specs.Number.{order_by};
 ghost use Rattle.format.specs.Dta.{sums};
-ghost use Rattle.sources.specs.Sources.{Opened, Sourced, Known};
+ghost use Rattle.sources.specs.Sources.{Sourced, Known};
 ghost use Rattle.plans.specs.Plans.{Sized, Small, sizes_by, Planned};
 
 use editions::Edition;
@@ -16,12 +16,6 @@ pub struct Sizes {
     pub rows: usize,
     pub longs: usize,
     pub blocks: usize,
-}
-
-// The fourteen positions of a result.
-#[derive(Clone, Copy)]
-pub struct Plan {
-    pub places: [u64; 14],
 }
 
 // `k` fields of `w` bytes.
@@ -38,79 +32,60 @@ fn next(p: u64, there: bool, tags: u64, n: usize) -> u64
     ensures { (result ≡ p + (cond there tags 0 + n)) × (result ≤ p + 8589934788) }
 {
     if there {
-        return p + (tags + n as u64);
+        p + (tags + n as u64)
+    } else {
+        p + n as u64
     }
-    p + n as u64
 }
 
 // The sizes of the parts of the source `s`, as the edition `to` has them.
-fn sizes_of(f: &[u8], s: Source, e: Edition, msf: bool, to: Edition) -> Sizes
-    requires { (Opened f.now e msf) × (Sourced f.now s) × (Known to) }
+fn sizes_of(f: &[u8], s: Source, to: Edition) -> Sizes
+    requires { (Sourced f.now s) × (Known to) }
     ensures { (Sized f.now to result) × (Small result) }
 {
+    let e = s.edition;
+    let t = e.tagged;
+    let u = to.tagged;
     let w = e.record_width;
     let x = to.record_width;
     let v = e.name_width;
     let y = to.name_width;
-    let t = e.tagged;
-    let u = to.tagged;
-    let head = write_header::header_size(to, s.llen, s.slen);
-    let width = data::row_width(f, s.types, s.k, t, msf);
-    let longs = write_strls::records_size(f, s.longs, s.longsend, t, msf, w, x);
-    let blocks = write_labels::blocks_size(f, s.blocks, s.blocksend, t, v, msf, u, y);
     Sizes {
-        head,
-        rows: s.n * width,
-        longs,
-        blocks,
+        head: write_header::header_size(to, s.llen, s.slen),
+        rows: s.n * data::row_width(f, s.types, s.k, t, s.msf),
+        longs: write_strls::records_size(f, s.longs, s.longsend, t, s.msf, w, x),
+        blocks: write_labels::blocks_size(f, s.blocks, s.blocksend, t, v, s.msf, u, y),
     }
 }
 
 // The positions of a result with `k` variables.
-fn places_of(to: Edition, k: usize, z: Sizes) -> Plan
+fn places_of(to: Edition, k: usize, z: Sizes) -> [u64; 14]
     requires { (Known to) × (k ≤ 32767) × (Small z) }
-    ensures { result.places ≡ sums 0 (sizes_by to k z) }
+    ensures { result ≡ sums 0 (sizes_by to k z) }
 {
     let t = to.tagged;
-    let mut places = [0u64; 14];
-    let b1 = list_bytes(k, codes::code_width(t));
     let b2 = list_bytes(k, to.name_width);
-    let b3 = list_bytes(k + 1, 2);
-    let b4 = list_bytes(k, to.format_width);
-    let b5 = list_bytes(k, to.var_label_width);
     let p1 = z.head as u64;
     let p2 = next(p1, t, 123, 0);
-    let p3 = next(p2, t, 33, b1);
+    let p3 = next(p2, t, 33, list_bytes(k, codes::code_width(t)));
     let p4 = next(p3, t, 21, b2);
-    let p5 = next(p4, t, 21, b3);
-    let p6 = next(p5, t, 19, b4);
+    let p5 = next(p4, t, 21, list_bytes(k + 1, 2));
+    let p6 = next(p5, t, 19, list_bytes(k, to.format_width));
     let p7 = next(p6, t, 39, b2);
-    let p8 = next(p7, t, 35, b5);
+    let p8 = next(p7, t, 35, list_bytes(k, to.var_label_width));
     let p9 = next(p8, t, 30, 5);
     let p10 = next(p9, t, 13, z.rows);
     let p11 = next(p10, t, 15, z.longs);
     let p12 = next(p11, t, 29, z.blocks);
-    places[1] = p1;
-    places[2] = p2;
-    places[3] = p3;
-    places[4] = p4;
-    places[5] = p5;
-    places[6] = p6;
-    places[7] = p7;
-    places[8] = p8;
-    places[9] = p9;
-    places[10] = p10;
-    places[11] = p11;
-    places[12] = p12;
-    places[13] = next(p12, t, 12, 0);
-    Plan { places }
+    let p13 = next(p12, t, 12, 0);
+    [0, p1, p2, p3, p4, p5, p6, p7, p8, p9, p10, p11, p12, p13]
 }
 
 // The positions of the source `s`, as the edition `to` has it.
-pub fn plan_of(f: &[u8], s: Source, e: Edition, msf: bool, to: Edition) -> Plan
-    requires { (Opened f.now e msf) × (Sourced f.now s) × (Known to) }
+pub fn plan_of(f: &[u8], s: Source, to: Edition) -> [u64; 14]
+    requires { (Sourced f.now s) × (Known to) }
     ensures { Planned f.now to result }
 {
-    let z = sizes_of(f, s, e, msf, to);
+    let z = sizes_of(f, s, to);
     places_of(to, s.k, z)
 }

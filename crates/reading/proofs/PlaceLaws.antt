@@ -7,7 +7,7 @@ use mathlib.Core.List.{List}
 use mathlib.Core.Bool.{Bool, true, false, cond}
 use lib.ListN.{length}
 use Rattle.format.specs.Edition.{opening, closing}
-use Rattle.reading.specs.declared.Read.{Read}
+use Rattle.std.specs.Prelude.{Option}
 use Rattle.reading.specs.Reads.{read_by, place_in}
 
 -- field j of a list at s, after the list's first tag
@@ -21,7 +21,7 @@ list_start true n m s g w q e = rw (zero-mul w, q, e) (omega arith)
 list_start false n m s g w q e = rw (zero-mul w, e) (omega arith)
 
 -- a width that is another number's name
-pub placed_as : (f : List ℕ) (s j : ℕ) {w v : ℕ} → w ≡ v → (r : Read) → r ≡ read_by (place_in f (s + j * w)) → r ≡ read_by (place_in f (s + j * v))
+pub placed_as : (f : List ℕ) (s j : ℕ) {w v : ℕ} → w ≡ v → (r : Option ℕ) → r ≡ read_by (place_in f (s + j * w)) → r ≡ read_by (place_in f (s + j * v))
 placed_as f s j e r h = h ∙ ap (λ (x : ℕ). read_by (place_in f (s + j * x))) e
 
 -- where a part's content starts

@@ -1,10 +1,11 @@
 -- What rewriting a file promises (document 01, "The numbers a call may answer").
-use Rattle.std.specs.Prelude.{◌≡◌, ℕ, List, ◌++◌, Bool, cond, ◌&&◌, ◌||◌, length, drop, eqb, leb}
+use Rattle.std.specs.Prelude.{◌≡◌, ℕ, List, ◌++◌, Bool, cond, ◌&&◌, ◌||◌, length, drop, eqb, leb, Result, Ok, Err}
 use Rattle.format.specs.Number.{Order, order_by}
 use Rattle.format.specs.Grammar.{also, unless}
 use Rattle.format.specs.Edition.{Edition, edition, is_release, release_by}
 use Rattle.format.specs.Dta.{verdict, dataset_of, written, holds}
-use Rattle.rewriting.specs.declared.Rewritten.{Rewritten}
+use Rattle.refusal.specs.declared.Refusal.{Refusal}
+use Rattle.refusal.specs.Refusals.{code_of}
 
 -- an edition that is read, in either byte order (1: MSF, 2: LSF), is offered
 abbrev pub offered : ℕ → ℕ → Bool
@@ -41,12 +42,13 @@ output_of f e o d =
 unfoldable pub length_of : List ℕ → ℕ → ℕ → ℕ → ℕ
 length_of f e o n = cond (eqb (rewrite_code f e o n) 0) (length (rewritten f e o)) 0
 
--- r is the answer for the file f, the edition e and the byte order o, and w is what the output then holds, which was d
-pub record Rewrites (f : List ℕ) (e o : ℕ) (d w : List ℕ) (r : Rewritten) : Type 0 where
-  pub code : r.code ≡ rewrite_code f e o (length d)
-  pub len : r.len ≡ length_of f e o (length d)
-  pub out : w ≡ output_of f e o d
+-- the length that an answer tells, 0 where it is a refusal
+abbrev pub len_of : Result ℕ Refusal → ℕ
+len_of (Ok n) = n
+len_of (Err e) = 0
 
--- a refusal
-abbrev pub no_result : ℕ → Rewritten
-no_result c = record { code = c; len = 0 }
+-- r is the answer for the file f, the edition e and the byte order o, and w is what the output then holds, which was d
+pub record Rewrites (f : List ℕ) (e o : ℕ) (d w : List ℕ) (r : Result ℕ Refusal) : Type 0 where
+  pub code : code_of r ≡ rewrite_code f e o (length d)
+  pub len : len_of r ≡ length_of f e o (length d)
+  pub out : w ≡ output_of f e o d

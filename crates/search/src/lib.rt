@@ -6,7 +6,7 @@ ghost use Rattle.format.specs.Cells.{signed_by};
 ghost use Rattle.format.specs.Search.{search_at};
 ghost use Rattle.search.specs.Slots.{slot_of};
 
-// Where a value stands in a label table.
+// Where a value stands in a label table: the three ends that the search of the format has, so no Option.
 #[derive(Clone, Copy)]
 pub enum Slot {
     Found(usize),
@@ -20,11 +20,7 @@ fn signed_of(n: u64) -> i32
     requires { n < 4294967296 }
     ensures { result ≡ signed_by 2147483648 n }
 {
-    if n < 2147483648 {
-        n as i32
-    } else {
-        -1 - ((4294967295 - n) as i32)
-    }
+    (n as u32).cast_signed()
 }
 
 // The signed number of four bytes at `q`.

@@ -1,17 +1,30 @@
 -- Refusals; tags and bytes that are there, or are not.
-use mathlib.Core.Path.{◌≡◌, refl, sym, ap, ◌∙◌}
-use Prim.Native.Nat.{ℕ, zero, suc, ◌+◌, ◌*◌, ◌≤◌, ◌<◌}
+use mathlib.Core.Path.{◌≡◌}
+use Prim.Native.Nat.{ℕ, ◌+◌, ◌≤◌, ◌<◌}
 use borrow.Author.Tests.{lt-leb}
 use native.Mathlib.Omega.{arith}
 use mathlib.Core.List.{List}
 use lib.ListN.{length}
-use Rattle.format.specs.Grammar.{Sect, also, unless, need, tag, same_at}
+use Rattle.format.specs.Grammar.{Sect, unless, need, tag, same_at}
 use Rattle.format.proofs.Good.{also_left, need_room, need_fits}
+use Rattle.std.specs.Prelude.{Result, Err}
+use Rattle.std.specs.Result.{IsErrAnd}
+use Rattle.std.proofs.lemmas.Result.{err_from_is_err_and}
+use Rattle.refusal.specs.declared.Refusal.{Refusal}
+use Rattle.refusal.specs.Refusals.{number_of}
 use Rattle.section.specs.Judged.{Judged}
 
 -- a refusal
-pub refused : {A : Type 0} (S : Sect A) (f : List ℕ) (p c : ℕ) → c ≡ S.judge f p → (c ≡ 0 → ⊥) → p ≤ length f → Judged S f p (record { code = c; at = p })
-refused S f p c e n b = record { code = e; ends = λ z. absurd (n z); inside = b }
+pub refused : {A : Type 0} (S : Sect A) (f : List ℕ) (p : ℕ) (e : Refusal) → number_of e ≡ S.judge f p → Judged S f p (Err e)
+refused S f p e h = record { code = h; ends = tt; inside = tt }
+
+-- what the exit of a `?` returns, from its refusal
+pub exit_judged : {A : Type 0} {S : Sect A} {f : List ℕ} {p : ℕ} {e : Refusal} (r : Result ℕ Refusal) → IsErrAnd r (λ y. y ≡ e) → Judged S f p (Err e) → Judged S f p r
+exit_judged r h j = let x = err_from_is_err_and r h in rw (x.1, x.2) j
+
+-- no refusal has the number 0
+pub some_number : (e : Refusal) → number_of e ≡ 0 → ⊥
+some_number e h = grind arith
 
 -- a tag that is right is in the file
 pub tag_room : (l : List ℕ) (c : ℕ) (f : List ℕ) (p : ℕ) → (tag l c).judge f p ≡ 0 → p + length l ≤ length f

@@ -1,18 +1,21 @@
 -- Laws of tags.
 use mathlib.Core.Path.{◌≡◌, refl, sym, ap, ◌∙◌, subst}
-use Prim.Native.Nat.{ℕ, zero, suc, ◌+◌, ◌≤◌, ◌<◌}
+use Prim.Native.Nat.{ℕ, suc, ◌+◌, ◌≤◌, ◌<◌}
 use native.Mathlib.Omega.{arith}
 use mathlib.Core.List.{List, [], ◌∷◌}
-use mathlib.Core.Bool.{Bool, true, false, cond, not, ◌&&◌}
+use mathlib.Core.Bool.{Bool, true, false, cond, not}
 use lib.ListN.{length, get_or, get_or-eq_default}
 use lib.Dec.{eqb, leb}
 use borrow.Author.Tests.{eqb-true, eqb-false, ne_eqb, leb-true, leb-false, not-true}
-use Rattle.format.specs.Grammar.{Sect, also, unless, need, no_zero, same_at, tag}
+use Rattle.format.specs.Grammar.{also, unless, need, no_zero, same_at, tag}
 use Rattle.format.specs.Edition.{opening, closing}
 use Rattle.format.proofs.Good.{and_left, and_right}
-use Rattle.section.specs.declared.Step.{Step}
+use Rattle.std.specs.Prelude.{Result, Ok, Err}
+use Rattle.std.specs.Result.{is_ok}
+use Rattle.refusal.specs.declared.Refusal.{Refusal}
+use Rattle.refusal.specs.Refusals.{number_of, code_of}
 use Rattle.section.specs.Judged.{Judged}
-use Rattle.section.proofs.StepLaws.{need_there}
+use Rattle.section.proofs.StepLaws.{need_there, some_number}
 
 -- a byte that is not zero is in the file
 pub byte_inside : (b : ℕ) (f : List ℕ) (p : ℕ) → get_or f p 0 ≡ b → (b ≡ 0 → ⊥) → p < length f
@@ -42,6 +45,14 @@ tag_same l c f p z b = go (same_at l f p) refl (leb (p + length l) (length f)) r
     go false h true k = rw (k, h) (ne_eqb (suc c) 0 (λ y. omega arith))
     go false h false k = rw (k, h)
 
+-- so a test of its answer is one of its bytes
+is_right : {A : Type 0} (r : Result A Refusal) → is_ok r ≡ eqb (code_of r) 0
+is_right (Ok a) = refl
+is_right (Err e) = sym (ne_eqb (number_of e) 0 (some_number e))
+
+pub tag_test : {A : Type 0} (l : List ℕ) (c : ℕ) (f : List ℕ) (p : ℕ) (r : Result A Refusal) → no_zero l ≡ true → p ≤ length f → code_of r ≡ (tag l (suc c)).judge f p → is_ok r ≡ same_at l f p
+tag_test l c f p r z b j = is_right r ∙ ap (λ (n : ℕ). eqb n 0) j ∙ tag_same l c f p z b
+
 -- ---- tags of an edition that is tagged or not
 
 pub opening_by : (t : Bool) (n : List ℕ) → cond t (opening true n) [] ≡ opening t n
@@ -53,5 +64,5 @@ closing_by true n = refl
 closing_by false n = refl
 
 -- a tag by its bytes
-pub tag_by : {l m : List ℕ} (c : ℕ) (f : List ℕ) (p : ℕ) (r : Step) → l ≡ m → Judged (tag l c) f p r → Judged (tag m c) f p r
+pub tag_by : {l m : List ℕ} (c : ℕ) (f : List ℕ) (p : ℕ) (r : Result ℕ Refusal) → l ≡ m → Judged (tag l c) f p r → Judged (tag m c) f p r
 tag_by c f p r e j = subst (λ (x : List ℕ). Judged (tag x c) f p r) e j

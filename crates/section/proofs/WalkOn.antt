@@ -7,7 +7,9 @@ use mathlib.Core.List.{List, [], ◌∷◌, ◌++◌}
 use mathlib.Core.Bool.{Bool, true, false}
 use lib.ListN.{length}
 use Rattle.format.specs.Grammar.{Sect, also, next, idle, seq, walk, judge_walk, read_walk, sizes}
-use Rattle.section.specs.declared.Step.{Step}
+use Rattle.std.specs.Prelude.{Result}
+use Rattle.std.proofs.lemmas.Result.{IfOk-weaker}
+use Rattle.refusal.specs.declared.Refusal.{Refusal}
 use Rattle.section.specs.Judged.{Judged}
 
 -- it is the walk alone, then its end
@@ -50,16 +52,16 @@ module _ {A B : Type 0} (more : List ℕ → ℕ → Bool) (E : Sect A) (T : Lis
       go false h r = (rw h (ap (λ (x : ℕ). (T l).judge f x) (sym e)), rw h (λ i. (l, (T l).read f (sym e i))))
 
   -- so its answer is that of the two in turn
-  pub walk_on : (f : List ℕ) (p : ℕ) (r : Step) → Judged (seq (walk more E alone) λ v. T v.0) f p r → Judged (walk more E T) f p r
+  pub walk_on : (f : List ℕ) (p : ℕ) (r : Result ℕ Refusal) → Judged (seq (walk more E alone) λ v. T v.0) f p r → Judged (walk more E T) f p r
   walk_on f p r j =
       let v = (walk more E alone).read f p in
       let h = split (length f) [] f p p (add-zero p) in
       let e : p + (sizes E v.0 + 0) ≡ p + sizes E v.0 = omega arith in
       record {
         code = j.code ∙ ap (λ (x : ℕ). also ((walk more E alone).judge f p) ((T v.0).judge f x)) e ∙ sym h.0;
-        ends = λ z. j.ends z
+        ends = IfOk-weaker r _ _ (λ y z. z
             ∙ ap (λ (x : ℕ). p + (sizes E v.0 + 0 + (T v.0).size ((T v.0).read f x))) e
             ∙ ap (λ (x : ℕ). p + (x + (T v.0).size ((T v.0).read f (p + sizes E v.0)))) (add-zero (sizes E v.0))
-            ∙ sym (ap (λ (x : List A × B). p + (sizes E x.0 + (T x.0).size x.1)) h.1);
+            ∙ sym (ap (λ (x : List A × B). p + (sizes E x.0 + (T x.0).size x.1)) h.1)) j.ends;
         inside = j.inside;
       }

@@ -8,7 +8,11 @@ use mathlib.Core.Bool.{Bool, true, false, cond}
 use lib.ListN.{length}
 use Rattle.format.specs.Grammar.{Sect, also, next, walk, sizes}
 use Rattle.format.proofs.WalkLaws.{plain_judge, plain_read}
-use Rattle.section.specs.declared.Step.{Step}
+use Rattle.std.specs.Prelude.{Result, Ok, Err}
+use Rattle.std.proofs.lemmas.Result.{IfOk-weaker}
+use Rattle.refusal.specs.declared.Refusal.{Refusal}
+use Rattle.refusal.specs.Refusals.{number_of}
+use Rattle.section.proofs.StepLaws.{some_number}
 use Rattle.section.specs.Judged.{Judged}
 use Rattle.section.proofs.SeqLaws.{also_first}
 
@@ -65,28 +69,29 @@ module _ {A B : Type 0} (more : List ℕ → ℕ → Bool) (E : Sect A) (T : Sec
   abbrev Whole : Sect (List A × B)
   Whole = walk more E (λ x. T)
 
-  module _ (h : more f q ≡ true) (s : Step) (j : Judged E f q s) where
+  module _ (h : more f q ≡ true) where
     -- one more is refused
-    pub walked_stop : (s.code ≡ 0 → ⊥) → Judged Whole f p s
-    walked_stop n = record { code = walk_stop more E T inside some f q h s.code j.code n ∙ w.same; ends = λ z. absurd (n z); inside = j.inside }
+    pub walked_stop : (e : Refusal) → Judged E f q (Err e) → Judged Whole f p (Err e)
+    walked_stop e j = record { code = walk_stop more E T inside some f q h (number_of e) j.code (some_number e) ∙ w.same; ends = tt; inside = tt }
 
-    -- one more is right: the loop goes on after it, with fewer bytes left
-    pub walked_turn : s.code ≡ 0 → Walked Whole f p s.at
-    walked_turn z =
-        record {
-          inside = j.inside;
-          same = ap (λ (x : ℕ). Whole.judge f x) (j.ends z) ∙ sym (walk_turn more E T inside some f q h (sym z ∙ j.code)) ∙ w.same;
-          ends = ap (λ (x : ℕ). next Whole f x) (j.ends z) ∙ sym (turn_next more E T inside some f q h) ∙ w.ends;
-        }
+    module _ {s : ℕ} (j : Judged E f q (Ok s)) where
+      -- one more is right: the loop goes on after it, with fewer bytes left
+      pub walked_turn : Walked Whole f p s
+      walked_turn =
+          record {
+            inside = j.inside;
+            same = ap (λ (x : ℕ). Whole.judge f x) j.ends ∙ sym (walk_turn more E T inside some f q h j.code) ∙ w.same;
+            ends = ap (λ (x : ℕ). next Whole f x) j.ends ∙ sym (turn_next more E T inside some f q h) ∙ w.ends;
+          }
 
-    pub walked_less : s.code ≡ 0 → length f - s.at < length f - q
-    walked_less z = omega (arith, j.ends z, j.inside, inside f q h, some (E.read f q))
+      pub walked_less : length f - s < length f - q
+      walked_less = omega (arith, j.ends, j.inside, inside f q h, some (E.read f q))
 
   -- no more: the end decides
-  pub walked_last : more f q ≡ false → (r : Step) → Judged T f q r → Judged Whole f p r
+  pub walked_last : more f q ≡ false → (r : Result ℕ Refusal) → Judged T f q r → Judged Whole f p r
   walked_last h r j =
       record {
         code = j.code ∙ sym (walk_last more E T inside some f q h) ∙ w.same;
-        ends = λ z. j.ends z ∙ sym (last_next more E T inside some f q h) ∙ w.ends;
+        ends = IfOk-weaker r _ _ (λ x y. y ∙ sym (last_next more E T inside some f q h) ∙ w.ends) j.ends;
         inside = j.inside;
       }

@@ -2,86 +2,58 @@
 
 ghost use Rattle.std.specs.Prelude.{◌≡◌, ℕ, ◌+◌, ◌*◌, ◌≤◌, [], cond, ◌&&◌, ◌||◌, length, eqb};
 ghost use Rattle.format.specs.Grammar.{Sect, tag, within, times, judge_times, between};
+ghost use Rattle.refusal.specs.Refusals.{number_of, code_of};
 ghost use Rattle.section.specs.Judged.{Judged, field};
-ghost use Rattle.section.specs.Parts.{Opened, Closed};
+ghost use Rattle.section.specs.Parts.{Opened};
 
-// The answer of a section: its refusal number, 0 where it is right; and where what follows starts.
-#[derive(Clone, Copy)]
-pub struct Step {
-    pub code: u8,
-    pub at: usize,
-}
+use refusal::Refusal;
 
-// The tag `t` where `there`, else no bytes; refused with `c`.
-pub fn tag_if(f: &[u8], p: usize, t: &[u8], c: u8, there: bool) -> Step
+// The tag `t` where `there`, else no bytes; refused with `refusal`. Like each function that judges a section, it answers where what follows
+// starts.
+pub fn tag_if(f: &[u8], p: usize, t: &[u8], refusal: Refusal, there: bool) -> Result<usize, Refusal>
     requires { p ≤ length f.now }
-    ensures { Judged (tag (cond there t.now []) c) f.now p result }
+    ensures { Judged (tag (cond there t.now []) (number_of refusal)) f.now p result }
 {
-    if there {
-        let a = text::tag_at(f, p, t, c);
-        if a != 0 {
-            return Step { code: a, at: p };
-        }
-        return Step {
-            code: 0,
-            at: p + t.len(),
-        };
+    if !there {
+        return Ok(p);
     }
-    Step { code: 0, at: p }
+    text::tag_at(f, p, t, refusal)?;
+    Ok(p + t.len())
 }
 
 // The first tag of a section, where the edition has tags, and the `n` bytes after it.
-pub fn opened(f: &[u8], p: usize, first: &[u8], tagged: bool, n: usize) -> Step
+pub fn opened(f: &[u8], p: usize, first: &[u8], tagged: bool, n: usize) -> Result<usize, Refusal>
     requires { p ≤ length f.now }
     ensures { Opened (cond tagged first.now []) n f.now p result }
 {
-    let a = tag_if(f, p, first, 4, tagged);
-    if a.code != 0 {
-        return a;
+    let at = tag_if(f, p, first, Refusal::WrongTag, tagged)?;
+    if f.len() - at < n {
+        return Err(Refusal::CutShort);
     }
-    if f.len() - a.at < n {
-        return Step { code: 3, at: p };
-    }
-    a
-}
-
-// The answer of a section whose content, up to `e`, has the refusal `b`, 0 where it is right: its last tag follows.
-pub fn closed(f: &[u8], e: usize, b: u8, last: &[u8], tagged: bool) -> Step
-    requires { e ≤ length f.now }
-    ensures { Closed (cond tagged last.now []) f.now e b result }
-{
-    if b != 0 {
-        return Step { code: b, at: e };
-    }
-    tag_if(f, e, last, 4, tagged)
+    Ok(at)
 }
 
 // Whether a field of `w` bytes with a text of `n` is refused: it has no zero, or it is a name and empty.
 fn bad_field(n: usize, w: usize, named: bool) -> bool
     ensures { result ≡ (eqb n w || (named && eqb n 0)) }
 {
-    if n == w {
-        return true;
-    }
-    if named { n == 0 } else { false }
+    n == w || named && n == 0
 }
 
 // The first refusal among `k` text fields of `w` bytes at `p`.
-fn texts(f: &[u8], p: usize, k: usize, w: usize, named: bool) -> u8
+fn texts(f: &[u8], p: usize, k: usize, w: usize, named: bool) -> Result<(), Refusal>
     requires { p + k * w ≤ length f.now }
-    ensures { result ≡ judge_times (field named w) k f.now p }
+    ensures { code_of result ≡ judge_times (field named w) k f.now p }
 {
     let mut q = p;
-    let mut i: usize = 0;
-    while i < k {
+    for _ in 0..k {
         let n = text::text_len(f, q, w);
         if bad_field(n, w, named) {
-            return 7;
+            return Err(Refusal::WrongText);
         }
         q += w;
-        i += 1;
     }
-    0
+    Ok(())
 }
 
 // A list of `k` text fields of `w` bytes between the tags `first` and `last`, where the edition has tags.
@@ -94,15 +66,12 @@ pub fn text_list(
     k: usize,
     w: usize,
     named: bool,
-) -> Step
+) -> Result<usize, Refusal>
     requires { (p ≤ length f.now) × (k ≤ 32767) × (w ≤ 65535) }
     ensures { Judged (between (cond tagged first.now []) (cond tagged last.now []) (within (k * w) (times (field named w) k))) f.now p result }
 {
     let n = k * w;
-    let a = opened(f, p, first, tagged, n);
-    if a.code != 0 {
-        return a;
-    }
-    let b = texts(f, a.at, k, w, named);
-    closed(f, a.at + n, b, last, tagged)
+    let at = opened(f, p, first, tagged, n)?;
+    texts(f, at, k, w, named)?;
+    tag_if(f, at + n, last, Refusal::WrongTag, tagged)
 }

@@ -14,7 +14,7 @@ ghost use Rattle.set_list.specs.Sets.{entries_to, set_numbers, sets_from, sets_o
 ghost use Rattle.set_list.specs.Reads.{entry_read, PutsOf, BlockHere, ReadsBlock};
 ghost use Rattle.text_ends.specs.Ends.{Ends};
 
-use long_list::Listed;
+use long_list::Untold;
 
 // Where a label block's name and table stand, how many entries and text bytes the table has, and where the next block stands.
 #[derive(Clone, Copy)]
@@ -75,10 +75,8 @@ fn put_entries(
     let v = o + n * 4;
     let a = v + n * 4;
     text_ends::fill_ends(t, f, a, x);
-    let mut m: usize = 0;
-    while m < n {
+    for m in 0..n {
         put_entry(&mut out[m * 3..], f, t, v + m * 4, o + m * 4, a, x, msf);
-        m += 1;
     }
 }
 
@@ -172,25 +170,15 @@ fn put_sets(
 }
 
 // The label sets of a file in file order: for each, place and length of its name and how many entries it has, and then for each entry its value,
-// as 32 bits, and place and length of its text. An `out` with no room for all of them is left as it came (14).
-pub fn set_list(f: &[u8], out: &mut [u64]) -> Listed
+// as 32 bits, and place and length of its text. Gives how many numbers; an `out` with no room for all of them is left as it came.
+pub fn set_list(f: &[u8], out: &mut [u64]) -> Result<usize, Untold>
     ensures { Lists f.now (sets_of f.now) out.old out.new result }
 {
-    let o = long_list::opened(f);
-    if o.code != 0 {
-        return Listed {
-            code: o.code,
-            count: 0,
-        };
-    }
-    let e = o.e;
-    let s = o.source;
-    let n = sets_count(f, s.blocks, s.blocksend, e.tagged, e.name_width, o.msf);
+    let s = sources::opened(f)?;
+    let e = s.edition;
+    let n = sets_count(f, s.blocks, s.blocksend, e.tagged, e.name_width, s.msf);
     if out.len() < n {
-        return Listed {
-            code: 14,
-            count: n as u64,
-        };
+        return Err(Untold::NoRoom(n));
     }
     put_sets(
         &mut out[..],
@@ -199,10 +187,7 @@ pub fn set_list(f: &[u8], out: &mut [u64]) -> Listed
         s.blocksend,
         e.tagged,
         e.name_width,
-        o.msf,
+        s.msf,
     );
-    Listed {
-        code: 0,
-        count: n as u64,
-    }
+    Ok(n)
 }

@@ -7,17 +7,17 @@ use mathlib.Core.Bool.{Bool, true, false, false≢true}
 use lib.ListN.{length}
 use Rattle.format.specs.Dta.{Layout}
 use Rattle.questions.specs.Ask.{slice}
-use Rattle.set_names.specs.declared.Name.{Name}
+use Rattle.answers.specs.declared.Part.{Part}
 use Rattle.set_names.specs.Names.{IsName, name_of, less, name_at, ordered_to, in_order, IsFirst}
 use Rattle.set_names.proofs.OrderLaws.{le_less, le_le, ordered_next, ordered_far}
 
-module _ {f : List ℕ} {l : Layout} {i : ℕ} {x : Name} (X : IsName f l i x) where
+module _ {f : List ℕ} {l : Layout} {i : ℕ} {x : Part} (X : IsName f l i x) where
   -- a name compared with a text, by its bytes
   pub named_less : (s : List ℕ) (r : Bool) → r ≡ less (slice f x.at x.len) s → r ≡ less (name_of f l i) s
   named_less s r e = e ∙ ap (λ (t : List ℕ). less t s) X.is
 
   -- .. and with another
-  pub names_less : {j : ℕ} {y : Name} → IsName f l j y → (r : Bool) → r ≡ less (slice f x.at x.len) (slice f y.at y.len) → r ≡ less (name_of f l i) (name_of f l j)
+  pub names_less : {j : ℕ} {y : Part} → IsName f l j y → (r : Bool) → r ≡ less (slice f x.at x.len) (slice f y.at y.len) → r ≡ less (name_of f l i) (name_of f l j)
   names_less {j} {y} Y r e = named_less (slice f y.at y.len) r e ∙ ap (λ (t : List ℕ). less (name_of f l i) t) Y.is
 
 module _ (f : List ℕ) (l : Layout) (v : List ℕ) where

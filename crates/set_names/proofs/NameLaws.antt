@@ -14,12 +14,12 @@ use Rattle.questions.proofs.EachLaws.{each_asked}
 use Rattle.reading.proofs.ReadLaws.{text_there}
 use Rattle.answers.specs.declared.Part.{Part}
 use Rattle.answers.specs.Answers.{part_by}
-use Rattle.set_names.specs.Names.{name_of, IsName}
+use Rattle.set_names.specs.Names.{name_of, name_by, IsName}
 
 module _ (f : List ℕ) where
   -- the part of an answer is in the file
   abbrev InFile : Answer → Type 0
-  InFile a = (part_by a).at + (part_by a).len ≤ length f
+  InFile a = (name_by (part_by a)).at + (name_by (part_by a)).len ≤ length f
 
   text_inside : (w p : ℕ) → InFile (or_refused (text_part w f p))
   text_inside w p = go (text_in w f p) refl
@@ -42,11 +42,9 @@ module _ (f : List ℕ) where
         go true e = rw e (read_inside (release_in l.release) (order_in l.order) (λ r. (edition r).name_width) λ r. field_place (edition r).tagged l 6 n_value_label_names (edition r).name_width i)
         go false e = rw e (omega arith)
 
-    set_shown : slice f (part_by (answer_of f l (ask_set i))).at (part_by (answer_of f l (ask_set i))).len ≡ shown f (answer_of f l (ask_set i))
-    set_shown = each_asked (λ (a : Answer). slice f (part_by a).at (part_by a).len ≡ shown f a) f l (ask_set i) refl refl (λ p n. refl)
+    set_shown : slice f (name_by (part_by (answer_of f l (ask_set i)))).at (name_by (part_by (answer_of f l (ask_set i)))).len ≡ shown f (answer_of f l (ask_set i))
+    set_shown = each_asked (λ (a : Answer). slice f (name_by (part_by a)).at (name_by (part_by a)).len ≡ shown f a) f l (ask_set i) refl refl (λ p n. refl)
 
-    pub set_named : (p : Part) → p ≡ part_by (answer_of f l (ask_set i)) → IsName f l i (record { at = p.at; len = p.len })
+    pub set_named : (p : Part) → p ≡ name_by (part_by (answer_of f l (ask_set i))) → IsName f l i p
     unfolding name_of
-    set_named p e =
-        subst (λ (p : Part). IsName f l i (record { at = p.at; len = p.len })) (sym e)
-        (record { place = refl; is = set_shown; inside = set_inside })
+    set_named p e = subst (λ (p : Part). IsName f l i p) (sym e) (record { place = refl; is = set_shown; inside = set_inside })

@@ -1,21 +1,22 @@
 -- Label-set names in order.
-use Rattle.std.specs.Prelude.{◌≡◌, ℕ, zero, suc, ◌+◌, ◌-◌, ◌≤◌, ◌<◌, List, [], ◌∷◌, Bool, true, false, cond, not, ◌&&◌, length, get_or, eqb, ltb}
+use Rattle.std.specs.Prelude.{◌≡◌, ℕ, zero, suc, ◌+◌, ◌-◌, ◌≤◌, ◌<◌, List, [], ◌∷◌, Bool, true, false, cond, not, ◌&&◌, length, get_or, eqb, ltb, Result}
+use Rattle.std.specs.Result.{result_unwrap_or}
 use Rattle.format.specs.Dta.{Layout}
 use Rattle.questions.specs.Ask.{answer_of, ask_set, slice, shown}
+use Rattle.refusal.specs.declared.Refusal.{Refusal}
 use Rattle.answers.specs.declared.Part.{Part}
 use Rattle.answers.specs.Answers.{part_by}
-use Rattle.set_names.specs.declared.Name.{Name}
 
 -- the label-set name of variable i; empty where it is refused
 unfoldable pub name_of : List ℕ → Layout → ℕ → List ℕ
 name_of f l i = shown f (answer_of f l (ask_set i))
 
--- where a part of the file stands
-abbrev pub name_by : Part → Name
-name_by p = record { at = p.at; len = p.len }
+-- where it stands; of a refusal place and length are 0
+abbrev pub name_by : Result Part Refusal → Part
+name_by r = result_unwrap_or r (record { at = 0; len = 0 })
 
--- r is where it stands; of a refusal place and length are 0
-pub record IsName (f : List ℕ) (l : Layout) (i : ℕ) (r : Name) : Type 0 where
+-- r is where it stands
+pub record IsName (f : List ℕ) (l : Layout) (i : ℕ) (r : Part) : Type 0 where
   pub place : r ≡ name_by (part_by (answer_of f l (ask_set i)))
   pub is : slice f r.at r.len ≡ name_of f l i
   pub inside : r.at + r.len ≤ length f

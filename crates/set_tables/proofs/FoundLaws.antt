@@ -3,11 +3,13 @@ use mathlib.Core.Path.{◌≡◌, refl, sym, ap, ◌∙◌}
 use Prim.Native.Nat.{ℕ, ◌+◌, ◌≤◌, ◌<◌}
 use native.Mathlib.Omega.{arith}
 use mathlib.Core.List.{List, []}
-use mathlib.Core.Logic.{◌⊎◌, inl}
-use mathlib.Core.Bool.{Bool, true, false, false≢true}
+use mathlib.Core.Logic.{inl}
+use mathlib.Core.Bool.{Bool, true, false}
 use lib.ListN.{length, get_or}
 use lib.Dec.{eqb}
-use borrow.Author.Tests.{le-leb, lt-leb, eqb-true, eqb-false, ne_eqb}
+use borrow.Author.Tests.{le-leb, eqb-true, eqb-false, ne_eqb}
+use Rattle.std.specs.Prelude.{None, Some, Result, Ok}
+use Rattle.refusal.specs.declared.Refusal.{Refusal}
 use Rattle.format.specs.Number.{order_by}
 use Rattle.format.specs.Edition.{n_value_label_names, n_value_labels}
 use Rattle.format.specs.Dta.{Layout}
@@ -16,24 +18,31 @@ use Rattle.questions.specs.Ask.{Answer, refused, part, labels, unlabelled, or_re
 use Rattle.editions.specs.Editions.{numbers_of}
 use Rattle.reading.specs.declared.Opened.{Opened}
 use Rattle.reading.specs.Reads.{length_in, opened_by, edition_in}
-use Rattle.reading.proofs.AnswerLaws.{answer_out, answer_shut, answer_open, edition_none, edition_widths}
+use Rattle.reading.proofs.AnswerLaws.{answer_out, answer_shut, answer_open}
 use Rattle.answers.specs.Answers.{part_by}
-use Rattle.walks.specs.Answers.{no_set, set_by, lenless}
+use Rattle.walks.specs.Answers.{set_by, lenless}
 use Rattle.walks.specs.Walks.{block_labels}
 use Rattle.walks.proofs.BlockLaws.{starts, come_plain}
 use Rattle.walks.proofs.TextLaws.{TextGot, text_none, text_got}
-use Rattle.label_words.proofs.WordLaws.{set_none, set_empty, set_walk, set_open}
+use Rattle.label_words.specs.Words.{set_said}
+use Rattle.label_words.proofs.WordLaws.{set_none, set_empty, set_walk}
 use Rattle.set_names.specs.Names.{name_of, name_at, in_order}
-use Rattle.set_tables.specs.Tables.{table_of, number_of, Alike, Started, Passed, can_find, Found, Bare}
+use Rattle.set_tables.specs.Tables.{table_of, number_of, Alike, Started, Passed, can_find, Found}
 use Rattle.set_tables.proofs.SameLaws.{slice_long}
 
--- the width of names in an edition, read or not
-pub name_width_lem : (n x : ℕ) (q : Opened) → q ≡ opened_by (edition_in n x) → q.e.name_width ≤ 65535
-name_width_lem n x q Q = go q.there refl
-  where
-    go : (b : Bool) → q.there ≡ b → q.e.name_width ≤ 65535
-    go true h = omega (arith, (edition_widths n x q Q h).name_most)
-    go false h = let z : q.e.name_width ≡ 0 = ap (λ (r : Opened). r.e.name_width) (Q ∙ ap opened_by (edition_none n x q Q h)) in omega arith
+-- ---- where edition or order are not read, no table is
+
+module _ (f : List ℕ) (l : Layout) (S : None ≡ opened_by (edition_in l.release l.order)) (v t : List ℕ) (T : Started f l v t) where
+  pub found_shut : Found f l v t (Some (Ok tt))
+  found_shut = record { each = λ k i. go k i (among (get_or v k 0) l.variables) refl }
+    where
+      known : (k : ℕ) → k < length v → (c : ℕ) → answer_of f l (ask_set (get_or v k 0)) ≡ refused c → answer_of f l (ask_table (get_or v k 0)) ≡ refused c
+          → table_of (Ok tt) (number_of (part_by (refused c))) ≡ lenless (set_by (refused c)) → table_of (Ok tt) (get_or t k 0) ≡ lenless (set_by (answer_of f l (ask_table (get_or v k 0))))
+      known k i c a b e = rw (T.each k i, a, b) e
+
+      go : (k : ℕ) → k < length v → (b : Bool) → among (get_or v k 0) l.variables ≡ b → table_of (Ok tt) (get_or t k 0) ≡ lenless (set_by (answer_of f l (ask_table (get_or v k 0))))
+      go k i true m = known k i 17 (answer_shut f l (ask_set (get_or v k 0)) m S) (answer_shut f l (ask_table (get_or v k 0)) m S) refl
+      go k i false m = known k i 16 (answer_out f l (ask_set (get_or v k 0)) m) (answer_out f l (ask_table (get_or v k 0)) m) refl
 
 -- ---- the label-set name of a variable, and its label table
 
@@ -46,7 +55,7 @@ pub data Kind (f : List ℕ) (l : Layout) (q : Opened) (i : ℕ) : Type 0 where
       → answer_of f l (ask_table i) ≡ block_labels q.e.tagged q.e.name_width (order_by q.msf) f (slice f p n) (end_of q.e.tagged l 11 n_value_labels) (start_of q.e.tagged l 11 n_value_labels)
       → Kind f l q i
 
-module _ (f : List ℕ) (l : Layout) (q : Opened) (Q : q ≡ opened_by (edition_in l.release l.order)) where
+module _ (f : List ℕ) (l : Layout) (q : Opened) (Q : Some q ≡ opened_by (edition_in l.release l.order)) where
   abbrev w : ℕ
   w = q.e.name_width
 
@@ -54,33 +63,30 @@ module _ (f : List ℕ) (l : Layout) (q : Opened) (Q : q ≡ opened_by (edition_
   abbrev at : ℕ → ℕ
   at i = field_place q.e.tagged l 6 n_value_label_names w i
 
-  kind_in : (i : ℕ) → among i l.variables ≡ true → q.there ≡ true → Kind f l q i
-  kind_in i m h = go (length_in w f (at i)) refl
+  kind_in : (i : ℕ) → among i l.variables ≡ true → Kind f l q i
+  unfolding set_said
+  kind_in i m = go (length_in w f (at i)) refl
     where
       text : (r : Try (List ℕ)) → text_in w f (at i) ≡ r → answer_of f l (ask_set i) ≡ or_refused (bind r λ t. got (part (at i) (length t)))
-      text r k = answer_open f l (ask_set i) q Q m h ∙ ap (λ (r : Try (List ℕ)). or_refused (bind r λ t. got (part (at i) (length t)))) k
+      text r k = answer_open f l (ask_set i) m q Q ∙ ap (λ (r : Try (List ℕ)). or_refused (bind r λ t. got (part (at i) (length t)))) k
 
       read : (n : ℕ) (b : Bool) → eqb n 0 ≡ b → length_in w f (at i) ≡ got n → TextGot w f (at i) n → Kind f l q i
       read n true b k g =
           no_name (at i) (text _ g.is ∙ ap (part (at i)) (sym g.long ∙ eqb-true n 0 b))
-          (set_open f l i q Q m h ∙ set_empty (numbers_of q.e) (order_by q.msf) f l i n k (eqb-true n 0 b))
+          (answer_open f l (ask_table i) m q Q ∙ set_empty (numbers_of q.e) (order_by q.msf) f l i n k (eqb-true n 0 b))
       read n false b k g =
           named (at i) n (eqb-false n 0 b) g.inside (text _ g.is ∙ ap (part (at i)) (sym g.long))
-          (set_open f l i q Q m h ∙ set_walk (numbers_of q.e) (order_by q.msf) f l i n k (eqb-false n 0 b) _ _ _ refl refl refl)
+          (answer_open f l (ask_table i) m q Q ∙ set_walk (numbers_of q.e) (order_by q.msf) f l i n k (eqb-false n 0 b) _ _ _ refl refl refl)
 
       go : (r : Try ℕ) → length_in w f (at i) ≡ r → Kind f l q i
-      go none k = not_read (text none (text_none w f (at i) k)) (set_open f l i q Q m h ∙ set_none (numbers_of q.e) (order_by q.msf) f l i k)
+      go none k = not_read (text none (text_none w f (at i) k)) (answer_open f l (ask_table i) m q Q ∙ set_none (numbers_of q.e) (order_by q.msf) f l i k)
       go (got n) k = read n (eqb n 0) refl k (text_got w f (at i) n k)
 
   pub kind_of : (i : ℕ) → Kind f l q i
   kind_of i = go (among i l.variables) refl
     where
-      there : among i l.variables ≡ true → (b : Bool) → q.there ≡ b → Kind f l q i
-      there m true h = kind_in i m h
-      there m false h = not_read (answer_shut f l (ask_set i) q Q m h) (answer_shut f l (ask_table i) q Q m h)
-
       go : (b : Bool) → among i l.variables ≡ b → Kind f l q i
-      go true m = there m q.there refl
+      go true m = kind_in i m
       go false m = none_such (answer_out f l (ask_set i) m) (answer_out f l (ask_table i) m)
 
   -- ---- its number is 0 where it has a name
@@ -115,9 +121,9 @@ module _ (f : List ℕ) (l : Layout) (q : Opened) (Q : q ≡ opened_by (edition_
     -- ---- what is found
 
     pub found_passed : (z p : ℕ) → z ≡ end_of q.e.tagged l 11 n_value_labels → p ≡ start_of q.e.tagged l 11 n_value_labels
-        → (u : List ℕ) (r : ℕ) → Passed q.e.tagged q.e.name_width (order_by q.msf) f l v z p t u r → Found f l v u (record { there = true; code = r })
+        → (u : List ℕ) (r : Result (Unit {0}) Refusal) → Passed q.e.tagged q.e.name_width (order_by q.msf) f l v z p t u r → Found f l v u (Some r)
     unfolding name_of
-    found_passed z p Z P u r D = record { each = λ h k i. go k i (kind_of (get_or v k 0)) }
+    found_passed z p Z P u r D = record { each = λ k i. go k i (kind_of (get_or v k 0)) }
       where
         -- one that was known before
         known : (k : ℕ) → k < length v → (n : ℕ) (a b : Answer) → answer_of f l (ask_set (get_or v k 0)) ≡ a → number_of (part_by a) ≡ n → (n ≡ 0 → ⊥)
@@ -139,39 +145,19 @@ module _ (f : List ℕ) (l : Layout) (q : Opened) (Q : q ≡ opened_by (edition_
             ∙ sym (ap (λ (x : Answer). lenless (set_by x)) b)
 
     -- a part without a block
-    pub found_over : (z : ℕ) → z ≡ end_of q.e.tagged l 11 n_value_labels → z ≤ start_of q.e.tagged l 11 n_value_labels → Found f l v t (record { there = true; code = 0 })
+    pub found_over : (z : ℕ) → z ≡ end_of q.e.tagged l 11 n_value_labels → z ≤ start_of q.e.tagged l 11 n_value_labels → Found f l v t (Some (Ok tt))
     found_over z Z h =
-        found_passed z (start_of q.e.tagged l 11 n_value_labels) Z refl t 0
+        found_passed z (start_of q.e.tagged l 11 n_value_labels) Z refl t (Ok tt)
         (record {
           found = λ k i e.
               (let s = name_at f l v k in
               let p = start_of q.e.tagged l 11 n_value_labels in
-              ap (table_of 0) e ∙ ap lenless (come_plain q.e.tagged q.e.name_width (order_by q.msf) f s z p p (starts q.e.tagged q.e.name_width (order_by q.msf) f s z p) h (no_set 0) refl));
+              ap (table_of (Ok tt)) e ∙ ap lenless (come_plain q.e.tagged q.e.name_width (order_by q.msf) f s z p p (starts q.e.tagged q.e.name_width (order_by q.msf) f s z p) h));
           others = λ k i e. refl;
           number = inl refl;
         })
 
--- ---- whether they can be found at once
+-- ---- they can be found at once
 
-module _ (f : List ℕ) (l : Layout) (v : List ℕ) where
-  pub find_many : 32768 < length v → false ≡ can_find f l v
-  find_many h = rw (lt-leb (length v) 32768 h)
-
-  module _ (h : length v ≤ 32768) where
-    pub find_unordered : in_order f l v ≡ false → false ≡ can_find f l v
-    find_unordered e = rw (le-leb (length v) 32768 h, e)
-
-    pub find_ordered : in_order f l v ≡ true → true ≡ can_find f l v
-    find_ordered e = rw (le-leb (length v) 32768 h, e)
-
--- .. where the variables are not in order
-pub found_none : (f : List ℕ) (l : Layout) (v t : List ℕ) → Found f l v t (record { there = false; code = 0 })
-found_none f l v t = record { each = λ h. absurd (false≢true h) }
-
--- ---- its number, and the table where nothing is found
-
-pub bare_none : (t : List ℕ) → Bare t t (record { there = false; code = 0 })
-bare_none t = record { number = inl refl; untouched = λ h. (refl, refl) }
-
-pub bare_some : (t u : List ℕ) (r : ℕ) → (r ≡ 0) ⊎ (r ≡ 17) → Bare t u (record { there = true; code = r })
-bare_some t u r n = record { number = n; untouched = λ h. absurd (false≢true (sym h)) }
+pub finds : (f : List ℕ) (l : Layout) (v : List ℕ) → length v ≤ 32768 → (r : Bool) → r ≡ in_order f l v → r ≡ true → true ≡ can_find f l v
+finds f l v h r e t = rw (le-leb (length v) 32768 h, sym e) (sym t)

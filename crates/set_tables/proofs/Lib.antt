@@ -1,4 +1,3 @@
-pub mod NumberLaws
 pub mod SameLaws
 pub mod MarkLaws
 pub mod PassLaws

@@ -7,60 +7,38 @@ use mathlib.Core.Bool.{Bool, true, false, ◌&&◌, and-false, false≢true}
 use lib.ListN.{length, get_or, set, length-set}
 use lib.Seq.{get_or-set_same, get_or-set_other}
 use lib.Dec.{eqb, ltb}
-use borrow.Author.Tests.{le-ltb, lt-ltb, ltb-true, ltb-false, eq-eqb, ne_eqb, eqb-true, eqb-false}
+use borrow.Author.Tests.{ltb-true, ltb-false, eq-eqb, ne_eqb, eqb-true, eqb-false}
+use Rattle.std.specs.Cmp.Lexicographic.{pointwise}
 use Rattle.format.specs.Dta.{Layout, same_list}
-use Rattle.questions.specs.Ask.{slice}
-use Rattle.walks.specs.Walks.{same_name}
-use Rattle.set_names.specs.declared.Name.{Name}
-use Rattle.set_names.specs.Names.{name_at, IsName}
+use Rattle.set_names.specs.Names.{name_at}
 use Rattle.set_names.proofs.OrderLaws.{same_is}
 use Rattle.set_tables.specs.Tables.{is_next, marked_at, Marks, Alike}
-use Rattle.set_tables.proofs.SameLaws.{name_slices}
+use Rattle.set_tables.proofs.SameLaws.{eq_same}
 
-module _ (f : List ℕ) (l : Layout) (v s t : List ℕ) (k : ℕ) where
-  -- ---- whether a variable is next
+-- ---- whether a variable is next
 
-  pub next_over : length v ≤ k → false ≡ is_next f l v s t k
-  next_over h = rw (le-ltb k (length v) h)
+pub next_named : (f : List ℕ) (l : Layout) (v s t : List ℕ) (k : ℕ) → get_or t k 0 ≡ 0 → (a b : List ℕ) → a ≡ name_at f l v k → b ≡ s
+    → (r : Bool) → r ≡ pointwise eqb a b → r ≡ is_next f l v s t k
+next_named f l v s t k h a b A B r e =
+    rw (eq-eqb (get_or t k 0) 0 h) (e ∙ eq_same a b ∙ ap (λ (x : List ℕ). same_list x b) A ∙ ap (same_list (name_at f l v k)) B)
 
-  pub next_found : k < length v → (get_or t k 0 ≡ 0 → ⊥) → false ≡ is_next f l v s t k
-  next_found h e = rw (lt-ltb k (length v) h, ne_eqb (get_or t k 0) 0 e)
+-- ---- what is stored for it
 
-  pub next_named : k < length v → get_or t k 0 ≡ 0 → (b : Bool) → b ≡ same_list (name_at f l v k) s → b ≡ is_next f l v s t k
-  next_named h e b q = rw (lt-ltb k (length v) h, eq-eqb (get_or t k 0) 0 e) q
+module _ (f : List ℕ) (l : Layout) (v s t : List ℕ) (k x : ℕ) where
+  pub marked_yes : is_next f l v s t k ≡ true → marked_at f l v s x t k ≡ x
+  marked_yes h = rw h
 
-  pub next_in : true ≡ is_next f l v s t k → k < length v
-  next_in h = go (ltb k (length v)) refl h
-    where
-      go : (b : Bool) → ltb k (length v) ≡ b → true ≡ (b && (eqb (get_or t k 0) 0 && same_list (name_at f l v k) s)) → k < length v
-      go true e h = ltb-true k (length v) e
-      go false e h = absurd (false≢true (sym h))
+  pub marked_no : is_next f l v s t k ≡ false → marked_at f l v s x t k ≡ get_or t k 0
+  marked_no h = rw h
 
-  pub next_is : (b : Bool) → b ≡ is_next f l v s t k → k < length v → b ≡ (eqb (get_or t k 0) 0 && same_list (name_at f l v k) s)
-  next_is b h i = h ∙ rw (lt-ltb k (length v) i)
+  pub marked_other : same_list (name_at f l v k) s ≡ false → marked_at f l v s x t k ≡ get_or t k 0
+  marked_other h = marked_no (rw h (and-false (eqb (get_or t k 0) 0)))
 
-  -- ---- what is stored for it
+  pub marked_found : (get_or t k 0 ≡ 0 → ⊥) → marked_at f l v s x t k ≡ get_or t k 0
+  marked_found h = marked_no (rw (ne_eqb (get_or t k 0) 0 h))
 
-  module _ (x : ℕ) where
-    pub marked_yes : (eqb (get_or t k 0) 0 && same_list (name_at f l v k) s) ≡ true → marked_at f l v s x t k ≡ x
-    marked_yes h = rw h
-
-    pub marked_no : (eqb (get_or t k 0) 0 && same_list (name_at f l v k) s) ≡ false → marked_at f l v s x t k ≡ get_or t k 0
-    marked_no h = rw h
-
-    pub marked_other : same_list (name_at f l v k) s ≡ false → marked_at f l v s x t k ≡ get_or t k 0
-    marked_other h = marked_no (rw h (and-false (eqb (get_or t k 0) 0)))
-
-    pub marked_found : (get_or t k 0 ≡ 0 → ⊥) → marked_at f l v s x t k ≡ get_or t k 0
-    marked_found h = marked_no (rw (ne_eqb (get_or t k 0) 0 h))
-
-    pub marked_here : get_or t k 0 ≡ 0 → same_list (name_at f l v k) s ≡ true → marked_at f l v s x t k ≡ x
-    marked_here h e = marked_yes (rw (eq-eqb (get_or t k 0) 0 h) e)
-
--- a name that is read, beside a text
-pub named_same : (f : List ℕ) (l : Layout) (v : List ℕ) (k a n : ℕ) (b : Name) → IsName f l (get_or v k 0) b → a + n ≤ length f
-    → (r : Bool) → r ≡ same_name f b.at b.len a n → r ≡ same_list (name_at f l v k) (slice f a n)
-named_same f l v k a n b B h r e = e ∙ name_slices f b.at b.len a n B.inside h ∙ ap (λ (x : List ℕ). same_list x (slice f a n)) B.is
+  pub marked_here : get_or t k 0 ≡ 0 → same_list (name_at f l v k) s ≡ true → marked_at f l v s x t k ≡ x
+  marked_here h e = marked_yes (rw (eq-eqb (get_or t k 0) 0 h) e)
 
 -- ---- the loop
 
@@ -77,31 +55,34 @@ module _ (f : List ℕ) (l : Layout) (v s : List ℕ) (x : ℕ) (t : List ℕ) (
       record { long = refl; from = omega arith; each = λ m h. sym (marked_other f l v s t m x (F m h)); after = λ m h. refl }
 
   module _ (k : ℕ) (u : List ℕ) (M : Marking f l v s x t r k u) where
+    -- whether it is next with the numbers of the start, too
+    next_is : (b : Bool) → b ≡ is_next f l v s u k → b ≡ is_next f l v s t k
+    next_is b h = h ∙ ap (λ (y : ℕ). eqb y 0 && same_list (name_at f l v k) s) (M.after k (omega arith))
+
     pub marking_on : true ≡ is_next f l v s u k → k < length u → Marking f l v s x t r (k + 1) (set u k x)
     marking_on h i =
-        let n = next_is f l v s u k true h (next_in f l v s u k h) in
-        let y : (eqb (get_or t k 0) 0 && same_list (name_at f l v k) s) ≡ true = ap (λ (y : ℕ). eqb y 0 && same_list (name_at f l v k) s) (sym (M.after k (omega arith))) ∙ sym n in
         record {
           long = simp length-set M.long;
           from = omega (arith, M.from);
-          each = λ m j. go m (eqb m k) refl j y;
+          each = λ m j. go m (eqb m k) refl j;
           after = λ m j. get_or-set_other u k m x 0 (λ q. omega arith) ∙ M.after m (omega arith);
         }
       where
-        go : (m : ℕ) (b : Bool) → eqb m k ≡ b → m < k + 1 → (eqb (get_or t k 0) 0 && same_list (name_at f l v k) s) ≡ true → get_or (set u k x) m 0 ≡ marked_at f l v s x t m
-        go m true e j y = rw (eqb-true m k e) (get_or-set_same u k x 0 i ∙ sym (marked_yes f l v s t k x y))
-        go m false e j y =
+        go : (m : ℕ) (b : Bool) → eqb m k ≡ b → m < k + 1 → get_or (set u k x) m 0 ≡ marked_at f l v s x t m
+        go m true e j = rw (eqb-true m k e) (get_or-set_same u k x 0 i ∙ sym (marked_yes f l v s t k x (sym (next_is true h))))
+        go m false e j =
             let d = eqb-false m k e in
             get_or-set_other u k m x 0 d ∙ M.each m (omega arith)
 
+    -- it ends with one that is not next, or with the list
     module _ (A : Alike f l v t) (O : (k : ℕ) → r ≤ k → same_list (name_at f l v k) s ≡ false → (m : ℕ) → k ≤ m → m < length v → same_list (name_at f l v m) s ≡ false)
-        (N : false ≡ is_next f l v s u k) where
+        (N : k < length v → false ≡ is_next f l v s u k) where
       -- a later one stays, whether its name is s or not
       stays : (m : ℕ) → k ≤ m → m < length v → marked_at f l v s x t m ≡ get_or t m 0
       stays m h i = go (same_list (name_at f l v m) s) refl
         where
-          n : false ≡ (eqb (get_or t k 0) 0 && same_list (name_at f l v k) s)
-          n = next_is f l v s u k false N (omega arith) ∙ ap (λ (y : ℕ). eqb y 0 && same_list (name_at f l v k) s) (M.after k (omega arith))
+          n : false ≡ is_next f l v s t k
+          n = next_is false (N (omega arith))
 
           same : same_list (name_at f l v m) s ≡ true → same_list (name_at f l v k) s ≡ true → get_or t m 0 ≡ 0 → ⊥
           same a b z =

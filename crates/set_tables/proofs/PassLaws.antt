@@ -1,9 +1,9 @@
 -- One pass over the label blocks, for all variables of a list.
-use mathlib.Core.Path.{◌≡◌, refl, sym, ap, ◌∙◌}
+use mathlib.Core.Path.{◌≡◌, refl, sym, ap, ◌∙◌, subst}
 use Prim.Native.Nat.{ℕ, suc, ◌+◌, ◌*◌, ◌≤◌, ◌<◌}
 use native.Mathlib.Omega.{arith}
 use mathlib.Core.List.{List}
-use mathlib.Core.Logic.{◌⊎◌, inl, inr}
+use mathlib.Core.Logic.{inl, inr}
 use mathlib.Core.Bool.{Bool, true, false, false≢true}
 use lib.ListN.{length, get_or, take, drop}
 use lib.Dec.{eqb, leb}
@@ -13,20 +13,23 @@ use Rattle.format.specs.Grammar.{text_at}
 use Rattle.format.specs.Dta.{Layout, same_list}
 use Rattle.questions.specs.Readings.{Try, none, got, bind, test, number_in, text_in}
 use Rattle.questions.specs.Ask.{slice, sized_in, block_in}
+use Rattle.std.specs.Prelude.{Option, Some, Result, Ok, Err}
+use Rattle.refusal.specs.declared.Refusal.{Refusal}
+use Rattle.refusal.specs.declared.Refusal.TheVariants.{NotReadable}
 use Rattle.walks.specs.declared.LabelSet.{LabelSet}
-use Rattle.walks.specs.Answers.{no_set, set_by, lenless}
+use Rattle.walks.specs.Answers.{set_by, lenless}
 use Rattle.walks.specs.Walks as Walk
 use Rattle.walks.specs.Walks.{open_size, close_size, table_at, BlockGot, block_labels}
 use Rattle.walks.proofs.BlockLaws.{Come, starts, come_plain, come_gone, come_here, come_on}
 use Rattle.label_words.proofs.WordLaws.{text_slice}
 use Rattle.set_names.specs.Names.{name_at}
-use Rattle.set_tables.specs.Tables.{table_of, Marks, Alike, Passed}
+use Rattle.set_tables.specs.Tables.{unlabelled, table_of, Marks, Alike, IsRest, Passed}
 use Rattle.set_tables.proofs.SameLaws.{same_swap}
 use Rattle.set_tables.proofs.MarkLaws.{marked_other, marked_found, marked_here}
 
 -- the label set whose table stands at a
-abbrev pub table_set : ℕ → LabelSet
-table_set a = record { code = 0; found = true; at = a; len = 0 }
+abbrev pub table_set : ℕ → Result (Option LabelSet) Refusal
+table_set a = Ok (Some (record { at = a; len = 0 }))
 
 -- the number x of a variable of the name s, in a pass from `start` on that has come to p: no block of that name yet, or the table of the first
 pub data Sought (g : Bool) (w : ℕ) (o : Order) (f s : List ℕ) (z start p x : ℕ) : Type 0 where
@@ -47,6 +50,10 @@ block_name g w o f z p n m b a e =
     ∙ ap (λ (y : ℕ). take y (drop (Walk.name_at g p) f)) b.name
     ∙ text_slice w f (Walk.name_at g p) (omega (arith, b.inside, b.name))
 
+rest_lenless : (r : Result (Unit {0}) Refusal) → unlabelled r ≡ lenless (unlabelled r)
+rest_lenless (Ok u) = refl
+rest_lenless (Err e) = refl
+
 module _ (g : Bool) (w : ℕ) (o : Order) (f : List ℕ) (l : Layout) (v : List ℕ) (z start : ℕ) (t : List ℕ) where
   pub going_starts : length t ≡ 32768 → Alike f l v t → Going g w o f l v z start t start t
   going_starts h A =
@@ -54,19 +61,19 @@ module _ (g : Bool) (w : ℕ) (o : Order) (f : List ℕ) (l : Layout) (v : List 
 
   module _ (p : ℕ) (u : List ℕ) (G : Going g w o f l v z start t p u) where
     -- what is answered, where those not found answer r
-    answers : (r : ℕ) → (r ≡ 0) ⊎ (r ≡ 17) → ((s : List ℕ) → Come g w o f s z start p → no_set r ≡ set_by (block_labels g w o f s z start)) → Passed g w o f l v z start t u r
+    answers : (r : Result (Unit {0}) Refusal) → IsRest r → ((s : List ℕ) → Come g w o f s z start p → unlabelled r ≡ set_by (block_labels g w o f s z start)) → Passed g w o f l v z start t u r
     answers r n h = record { found = λ k i e. go k (G.each k i e); others = G.others; number = n }
       where
         go : (k : ℕ) → Sought g w o f (name_at f l v k) z start p (get_or u k 0) → table_of r (get_or u k 0) ≡ lenless (set_by (block_labels g w o f (name_at f l v k) z start))
-        go k (still e C) = ap (table_of r) e ∙ ap lenless (h (name_at f l v k) C)
+        go k (still e C) = ap (table_of r) e ∙ rest_lenless r ∙ ap lenless (h (name_at f l v k) C)
         go k (seen a e q) = ap (table_of r) e ∙ q
 
-    pub going_ends : z ≤ p → Passed g w o f l v z start t u 0
-    going_ends h = answers 0 (inl refl) (λ s C. come_plain g w o f s z start p C h (no_set 0) refl)
+    pub going_ends : z ≤ p → Passed g w o f l v z start t u (Ok tt)
+    going_ends h = answers (Ok tt) (inl refl) (λ s C. come_plain g w o f s z start p C h)
 
     module _ (h : p < z) where
-      pub going_gone : block_in g w o f z p ≡ none → Passed g w o f l v z start t u 17
-      going_gone b = answers 17 (inr refl) (λ s C. come_gone g w o f s z start p C h b (no_set 17) refl)
+      pub going_gone : block_in g w o f z p ≡ none → Passed g w o f l v z start t u (Err NotReadable)
+      going_gone b = answers (Err NotReadable) (inr refl) (λ s C. come_gone g w o f s z start p C h b)
 
       module _ (n m : ℕ) (b : BlockGot g w o f z p n m) (s : List ℕ) (S : s ≡ text_at w f (Walk.name_at g p)) (x : ℕ) (X : x ≡ suc (suc (suc (suc (table_at g w p)))))
           (y : List ℕ) (M : Marks f l v s x u y) where
@@ -107,8 +114,16 @@ module _ (g : Bool) (w : ℕ) (o : Order) (f : List ℕ) (l : Layout) (v : List 
             one : (k j : ℕ) → k < length v → j < length v → name_at f l v k ≡ name_at f l v j → (get_or u k 0 ≡ 0) × (same_list (name_at f l v k) s ≡ false) → get_or y j 0 ≡ 0
             one k j a b q e = M.each j b ∙ marked_other f l v s u j x (ap (λ (i : List ℕ). same_list i s) (sym q) ∙ e.1) ∙ G.alike.each k j a b q e.0
 
-        pub going_on : Going g w o f l v z start t (table_at g w p + n + close_size g) y
+        going_on : Going g w o f l v z start t (table_at g w p + n + close_size g) y
         going_on = record { long = M.long ∙ G.long; alike = same; each = λ k i e. sought k i (G.each k i e); others = stay }
+
+      -- a turn, by the sizes of a block's marks
+      pub going_turn : (n m : ℕ) → BlockGot g w o f z p n m → (a c : ℕ) → a ≡ open_size g → c ≡ close_size g
+          → (y : List ℕ) → Marks f l v (slice f (p + a + 4) m) (p + a + (7 + w) + 4) u y → Going g w o f l v z start t (p + a + (7 + w) + n + c) y
+      going_turn n m b a c A C y M =
+          let q : table_at g w p + n + close_size g ≡ p + a + (7 + w) + n + c = omega (arith, A, C) in
+          subst (λ (i : ℕ). Going g w o f l v z start t i y) q
+          (going_on n m b _ (block_name g w o f z p n m b _ (omega (arith, A))) _ (omega (arith, A)) y M)
 
 -- a length and a name, and the length again
 abbrev pair : ℕ → List ℕ → Try (ℕ × List ℕ)

@@ -10,6 +10,8 @@ use lib.Dec.{eqb}
 use borrow.Author.Tests.{eqb-true, eqb-false}
 use Rattle.format.specs.Dta.{Layout}
 use Rattle.questions.specs.Ask.{answer_of, ask_set}
+use Rattle.std.specs.Prelude.{Result}
+use Rattle.refusal.specs.declared.Refusal.{Refusal}
 use Rattle.answers.specs.declared.Part.{Part}
 use Rattle.answers.specs.Answers.{part_by}
 use Rattle.set_tables.specs.Tables.{number_of, Started}
@@ -24,7 +26,7 @@ module _ (f : List ℕ) (l : Layout) (v t : List ℕ) where
   starting_none h = record { long = h; each = λ m i. absurd (omega arith) }
 
   module _ (k : ℕ) (S : Starting f l v k t) where
-    pub starting_on : k < 32768 → (p : Part) → p ≡ part_by (answer_of f l (ask_set (get_or v k 0))) → (x : ℕ) → x ≡ number_of p → Starting f l v (k + 1) (set t k x)
+    pub starting_on : k < 32768 → (p : Result Part Refusal) → p ≡ part_by (answer_of f l (ask_set (get_or v k 0))) → (x : ℕ) → x ≡ number_of p → Starting f l v (k + 1) (set t k x)
     starting_on h p P x X = record { long = simp length-set S.long; each = λ m i. go m (eqb m k) refl i }
       where
         go : (m : ℕ) (b : Bool) → eqb m k ≡ b → m < k + 1 → get_or (set t k x) m 0 ≡ number_of (part_by (answer_of f l (ask_set (get_or v m 0))))

@@ -9,20 +9,17 @@ ghost use Rattle.writing.specs.Writes.{Puts};
 ghost use Rattle.long_list.specs.Lists.{Lists};
 ghost use Rattle.sort_order.specs.Sorted.{sorted_of};
 
-use long_list::Listed;
+use long_list::Untold;
 
 // How many of the `n` numbers of 2 bytes at `p` stand before the first zero.
 fn sort_count(f: &[u8], p: usize, n: usize, msf: bool) -> usize
     requires { p + n * 2 ≤ length f.now }
     ensures { result ≡ length (ended_at (order_by msf) 2 n f.now p) }
 {
-    let mut i: usize = 0;
-    while i < n {
-        let x = number::number(f, p + i * 2, 2, msf);
-        if x == 0 {
+    for i in 0..n {
+        if number::number(f, p + i * 2, 2, msf) == 0 {
             return i;
         }
-        i += 1;
     }
     n
 }
@@ -32,36 +29,21 @@ fn put_numbers(out: &mut [u64], f: &[u8], p: usize, n: usize, msf: bool)
     requires { (p + n * 2 ≤ length f.now) × (n ≤ length out.old) }
     ensures { Puts (read_times (number (order_by msf) 2) n f.now p) out.old out.new n }
 {
-    let mut i: usize = 0;
-    while i < n {
-        let x = number::number(f, p + i * 2, 2, msf);
-        out[i] = x;
-        i += 1;
+    for i in 0..n {
+        out[i] = number::number(f, p + i * 2, 2, msf);
     }
 }
 
-// The numbers of the variables by which a file is sorted, in that order. An `out` with no room for all of them is left as it came (14).
-pub fn sort_order(f: &[u8], out: &mut [u64]) -> Listed
+// The numbers of the variables by which a file is sorted, in that order. Gives how many; an `out` with no room for all of them is left as it
+// came.
+pub fn sort_order(f: &[u8], out: &mut [u64]) -> Result<usize, Untold>
     ensures { Lists f.now (sorted_of f.now) out.old out.new result }
 {
-    let x = long_list::opened(f);
-    if x.code != 0 {
-        return Listed {
-            code: x.code,
-            count: 0,
-        };
-    }
-    let s = x.source;
-    let n = sort_count(f, s.sort, s.k + 1, x.msf);
+    let s = sources::opened(f)?;
+    let n = sort_count(f, s.sort, s.k + 1, s.msf);
     if out.len() < n {
-        return Listed {
-            code: 14,
-            count: n as u64,
-        };
+        return Err(Untold::NoRoom(n));
     }
-    put_numbers(&mut out[..], f, s.sort, n, x.msf);
-    Listed {
-        code: 0,
-        count: n as u64,
-    }
+    put_numbers(&mut out[..], f, s.sort, n, s.msf);
+    Ok(n)
 }

@@ -1,5 +1,5 @@
 -- What code reads of an accepted file by its `Source` is its dataset.
-use mathlib.Core.Path.{◌≡◌, refl, sym, ap, ◌∙◌, subst}
+use mathlib.Core.Path.{◌≡◌, sym, subst}
 use Prim.Native.Nat.{ℕ, suc, ◌+◌, ◌*◌, ◌≤◌}
 use native.Mathlib.Omega.{arith}
 use mathlib.Core.List.{List, []}
@@ -8,8 +8,8 @@ use lib.ListN.{length}
 use lib.Dec.{leb}
 use Rattle.format.specs.Slot.{Bytes}
 use Rattle.format.specs.Number.{Order, order_by}
-use Rattle.format.specs.Grammar.{Sect, text, read_times, ended_at, row, row_width}
-use Rattle.format.specs.Edition.{Edition, edition, n_variable_types, n_varnames, n_sortlist, n_formats, n_value_label_names, n_variable_labels, n_data, n_strls, n_value_labels}
+use Rattle.format.specs.Grammar.{text, read_times, ended_at, row, row_width}
+use Rattle.format.specs.Edition.{Edition, n_variable_types, n_varnames, n_sortlist, n_formats, n_value_label_names, n_variable_labels, n_data, n_strls, n_value_labels}
 use Rattle.format.specs.Variables.{type_code}
 use Rattle.format.specs.Data.{cell, cell_width, long_record}
 use Rattle.format.specs.Labels.{block}

@@ -1,31 +1,29 @@
 -- What stands where in an accepted file, for a writer: each part of its dataset is what is read there.
-use mathlib.Core.Path.{◌≡◌, refl, sym, ap, ◌∙◌, subst}
-use Prim.Native.Nat.{ℕ, zero, suc, ◌+◌, ◌-◌, ◌*◌, ◌≤◌, ◌<◌}
+use mathlib.Core.Path.{◌≡◌, refl, sym, ap, subst}
+use Prim.Native.Nat.{ℕ, suc, ◌+◌, ◌*◌, ◌≤◌}
 use native.Mathlib.Omega.{arith}
-use mathlib.Core.List.{List, [], ◌∷◌, ◌++◌, map}
-use mathlib.Core.Bool.{Bool, true, false, cond, not, ◌&&◌, ◌||◌}
-use lib.ListN.{length, get_or, take, drop, length-map}
-use lib.Dec.{eqb, leb}
+use mathlib.Core.List.{List, []}
+use mathlib.Core.Bool.{Bool, true, false}
+use lib.ListN.{length, get_or}
+use lib.Dec.{eqb}
 use borrow.Author.Tests.{leb-true, eqb-true}
-use Rattle.format.specs.Slot.{byte, Fits, Bytes}
+use Rattle.format.specs.Slot.{Fits, Bytes}
 use Rattle.format.specs.Number.{Order}
-use Rattle.format.specs.Grammar.{Sect, need, text, within, times, read_times, all_slots, sizes, AllRight, ended_at, ended, ruled, row, row_width, tag, between, walk, done}
-use Rattle.format.specs.Edition.{Edition, edition, code_width, opening, closing, n_variable_types, n_varnames, n_sortlist, n_formats, n_value_label_names, n_variable_labels, n_data, n_strls, n_value_labels, n_stata_dta}
-use Rattle.format.specs.Header.{Head, stamp_length, old_stamp, old_header, counted, new_header, new_facts, header_by, header}
+use Rattle.format.specs.Grammar.{Sect, need, text, within, times, read_times, all_slots, sizes, ended_at, ended, ruled, row, row_width, tag, between}
+use Rattle.format.specs.Edition.{Edition, code_width, opening, closing, n_variable_types, n_varnames, n_sortlist, n_formats, n_value_label_names, n_variable_labels, n_data, n_strls, n_value_labels}
+use Rattle.format.specs.Header.{Head, stamp_length, old_stamp, old_header, counted, new_header, new_facts, header_by}
 use Rattle.format.specs.Variables.{type_code, types, name, names, sort_list, fields, fresh}
 use Rattle.format.specs.Data.{cell, cell_width, observations, long_record, strls}
-use Rattle.format.specs.Labels.{block, blocks}
-use Rattle.format.specs.Dta.{Dataset, Layout, head_of, verdict, edition_of, order_of, release_of, contents, dataset_of, layout_of, part_sizes}
+use Rattle.format.specs.Labels.{block}
+use Rattle.format.specs.Dta.{Dataset, head_of, verdict, edition_of, order_of, release_of, contents, dataset_of, layout_of, part_sizes}
 use Rattle.format.specs.Dead.{content_at}
-use Rattle.format.proofs.SlotLaws.{fits_left, fits_after, fits_bound}
-use Rattle.format.proofs.Good.{Good, and_left, between_fits, good_bound, times_good, times_size, text_good, within_good, ruled_good, also_left, also_right, need_room}
+use Rattle.format.proofs.Good.{Good, and_left, between_fits, good_bound, text_good, within_good, ruled_good, also_left, also_right, need_room}
 use Rattle.format.proofs.EndedLaws.{ended_good}
 use Rattle.format.proofs.RowLaws.{rows_good}
 use Rattle.format.proofs.VariableLaws.{list_good, code_good, name_good}
 use Rattle.format.proofs.DataLaws.{cell_good, cell_wide}
 use Rattle.questions.proofs.LongLaws.{longs_right, longs_fit}
 use Rattle.questions.proofs.WordLaws.{blocks_right, blocks_fit}
-use Rattle.format.proofs.LabelLaws.{block_good}
 use Rattle.format.proofs.FileLaws.{number_small, sound}
 use Rattle.format.proofs.PartLaws.{place, place_is, SectionsRight, sections_of, SectionsFit, sections_fit}
 use Rattle.data.specs.Places.{Typed}

@@ -2,7 +2,7 @@
 use Rattle.std.specs.Prelude.{ℕ, List, []}
 use Rattle.format.specs.Slot.{fill}
 use Rattle.format.specs.Number.{Order}
-use Rattle.format.specs.Grammar.{Sect, done}
+use Rattle.format.specs.Grammar.{done}
 use Rattle.format.specs.Edition.{Edition}
 use Rattle.format.specs.Header.{header}
 use Rattle.format.specs.Variables.{file_map, types, names, sort_list, formats, set_names, var_labels}

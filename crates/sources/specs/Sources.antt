@@ -1,14 +1,17 @@
 -- An accepted file, as a writer takes it: its edition and byte order, K, N, and where the contents of its parts stand.
-use Rattle.std.specs.Prelude.{◌≡◌, ℕ, ◌+◌, ◌-◌, ◌≤◌, List, Bool, true, length, get_or, take, drop}
+use Rattle.std.specs.Prelude.{◌≡◌, ℕ, ◌+◌, ◌-◌, ◌≤◌, List, Bool, true, length, get_or, take, drop, Result, IfOk}
 use Rattle.format.specs.Number.{Order, order_by}
 use Rattle.format.specs.Edition.{Release, edition, closing, n_variable_types, n_varnames, n_sortlist, n_formats, n_value_label_names, n_variable_labels, n_data, n_strls, n_value_labels}
 use Rattle.format.specs.Dta.{verdict, edition_of, order_of, dataset_of, layout_of, holds}
 use Rattle.format.specs.Dead.{content_at}
 use Rattle.questions.specs.Fact.{label_place, stamp_place}
-use Rattle.editions.specs.Editions.{numbers_of}
+use Rattle.reading.specs.Reads.{is_msf}
+use Rattle.editions.specs.Editions.{numbers_of, edition_by}
 use Rattle.editions.specs.declared.Edition.{Edition}
 use Rattle.checking.specs.declared.Layout.{Layout}
 use Rattle.checking.specs.Checks.{layout_by}
+use Rattle.refusal.specs.declared.Refusal.{Refusal}
+use Rattle.refusal.specs.Refusals.{code_of}
 use Rattle.sources.specs.declared.Source.{Source}
 
 -- f is accepted, and l is its layout
@@ -28,8 +31,9 @@ pub record Opened (f : List ℕ) (e : Edition) (msf : Bool) : Type 0 where
   pub edition : numbers_of e ≡ edition_of f
   pub order : order_by msf ≡ order_of f
 
--- s says K and N of f, where the contents of its parts start, where long strings and label blocks end, and where label and stamp stand
+-- s says edition and byte order of the accepted file f, K and N, where the contents of its parts start, where long strings and label blocks end, and where label and stamp stand
 pub record Sourced (f : List ℕ) (s : Source) : Type 0 where
+  pub opened : Opened f s.edition s.msf
   pub variables : s.k ≡ (dataset_of f).k
   pub observations : s.n ≡ (dataset_of f).n
   pub types : s.types ≡ content_at f 2 n_variable_types
@@ -48,10 +52,17 @@ pub record Sourced (f : List ℕ) (s : Source) : Type 0 where
   pub stamp_placed : s.sat ≡ stamp_place (edition_of f).tagged (edition_of f) (dataset_of f)
   pub stamp : PartOf f s.sat s.slen (dataset_of f).stamp
 
+-- r is the answer for the file f: its refusal, or what it has to say
+pub record Opens (f : List ℕ) (r : Result Source Refusal) : Type 0 where
+  pub code : code_of r ≡ verdict f
+  pub parts : IfOk r (Sourced f)
+
 -- what s is then, as one struct
 abbrev pub source_of : List ℕ → Source
 source_of f =
     record {
+      edition = edition_by (edition_of f);
+      msf = is_msf (order_of f);
       k = (dataset_of f).k;
       n = (dataset_of f).n;
       types = content_at f 2 n_variable_types;

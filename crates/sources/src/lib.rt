@@ -1,15 +1,19 @@
 #![tactic(auto)]
 
 ghost use Rattle.std.specs.Prelude.{◌≡◌, cond, ◌+◌, ◌≤◌, length};
-ghost use Rattle.sources.specs.Sources.{Own, Opened, Sourced};
+ghost use Rattle.sources.specs.Sources.{Own, Sourced, Opens};
 
 use checking::Layout;
 use editions::Edition;
+use refusal::Refusal;
 
-// K and N of an accepted file; where the contents of its parts start: type list, names, sort list, display formats, label-set names,
-// variable labels, rows, long strings, label blocks; where the last two end; and place and length of the dataset label and the stamp.
+// The numbers of an accepted file's edition, and whether its byte order is MSF; K and N; where the contents of its parts start: type list,
+// names, sort list, display formats, label-set names, variable labels, rows, long strings, label blocks; where the last two end; and place
+// and length of the dataset label and the stamp.
 #[derive(Clone, Copy)]
 pub struct Source {
+    pub edition: Edition,
+    pub msf: bool,
     pub k: usize,
     pub n: usize,
     pub types: usize,
@@ -46,15 +50,19 @@ fn end(p: u64, tagged: bool, n: usize) -> usize
 }
 
 // Where the contents of an accepted file's parts stand, by its layout.
-pub fn source_of(f: &[u8], l: Layout, e: Edition, msf: bool) -> Source
-    requires { (Own f.now l) × (Opened f.now e msf) }
+fn source_of(f: &[u8], l: Layout) -> Source
+    requires { Own f.now l }
     ensures { Sourced f.now result }
 {
-    let t = e.tagged;
+    let edition = editions::numbers_of(l.edition);
+    let msf = l.order == 1;
+    let t = edition.tagged;
     let places = l.places;
-    let a = header_facts::label(f, l);
-    let b = header_facts::stamp(f, l);
+    let a = header_facts::label(f, l).unwrap();
+    let b = header_facts::stamp(f, l).unwrap();
     Source {
+        edition,
+        msf,
         k: l.k as usize,
         n: l.n as usize,
         types: start(places[2], t, 16),
@@ -73,4 +81,12 @@ pub fn source_of(f: &[u8], l: Layout, e: Edition, msf: bool) -> Source
         sat: b.at as usize,
         slen: b.len as usize,
     }
+}
+
+// Checks a file, and finds its parts.
+pub fn opened(f: &[u8]) -> Result<Source, Refusal>
+    ensures { Opens f.now result }
+{
+    let l = checking::check(f)?;
+    Ok(source_of(f, l))
 }

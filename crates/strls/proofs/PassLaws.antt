@@ -5,19 +5,18 @@ use native.Mathlib.Nat.{sub-zero}
 use native.Mathlib.Omega.{arith}
 use native.Mathlib.Numerals.{add-one}
 use mathlib.Core.List.{List}
-use mathlib.Core.Bool.{Bool, true, false, cond, not}
+use mathlib.Core.Bool.{Bool, true, false, cond}
 use lib.ListN.{length, get_or}
-use lib.Dec.{eqb}
-use borrow.Author.Tests.{eq-eqb, ne_eqb}
 use Rattle.format.specs.Data.{long_next}
-use Rattle.section.specs.declared.Step.{Step}
+use Rattle.std.specs.Prelude.{Ok, Err}
+use Rattle.refusal.specs.declared.Refusal.{Refusal}
 use Rattle.strls.specs.declared.Frame.{Frame}
-use Rattle.strls.specs.Links.{is_long, next_long, going, broken, pick, cell_step, row_run, data_run, rule11, Tabled, Ran}
+use Rattle.strls.specs.Links.{Turn, is_long, next_long, broken, followed, cell_step, row_run, data_run, rule11, Tabled, Ran}
 use Rattle.strls.proofs.LinkLaws.{step_other}
 use Rattle.strls.proofs.TableLaws.{next_least, next_most, next_long_lem}
 
 module _ (f : List ℕ) (d : Frame) where
-  abbrev run : ℕ → ℕ → ℕ → ℕ → Step
+  abbrev run : ℕ → ℕ → ℕ → ℕ → Turn
   run = row_run f d
 
   -- ---- rows
@@ -32,7 +31,7 @@ module _ (f : List ℕ) (d : Frame) where
       go false e ih =
           let n = next_long f d m (suc i) in
           let g : i + suc m - n ≡ suc i + m - n = omega arith in
-          rw (e, g) (ap (λ (s : Step). pick (eqb s.code 0) (run m (suc i) j s.at) broken) (sym (step_other f d i j q e)) ∙ ih)
+          rw (e, g) (ap (λ (s : Turn). followed s (run m (suc i) j)) (sym (step_other f d i j q e)) ∙ ih)
 
   -- from i on to the next strL variable n
   skip : (i n j q : ℕ) → i ≤ d.k → n ≡ next_long f d (d.k - i) i → run (d.k - n) n j q ≡ run (d.k - i) i j q
@@ -63,39 +62,35 @@ module _ (f : List ℕ) (d : Frame) where
     pub run_starts : (j start : ℕ) → start ≤ length f → Running j start (get_or s 0 0) start
     run_starts j start h = lands 0 j start start (omega arith) h (rw sub-zero)
 
-    module _ {j start i q : ℕ} (R : Running j start i q) (b : i < d.k) {r : Step} (C : Ran f (cell_step f d i j q) r) where
+    module _ {j start i q : ℕ} (R : Running j start i q) (b : i < d.k) where
       left : d.k - i ≡ suc (d.k - (i + 1))
       left = omega arith
 
-      pub run_stops : (r.code ≡ 0 → ⊥) → Ran f (run d.k 0 j start) broken
-      run_stops n =
-          let h : broken ≡ run (d.k - i) i j q = rw (left, ← C.is, ne_eqb r.code 0 n) in
-          record { is = h ∙ R.same; inside = omega arith }
+      pub run_stops : (e : Refusal) → Ran f (cell_step f d i j q) (Err e) → Ran f (run d.k 0 j start) (Err e)
+      run_stops e C =
+          let h : Err e ≡ run (d.k - i) i j q = rw (left, ← C.is) in
+          record { is = h ∙ R.same; inside = tt }
 
-      module _ (n : r.code ≡ 0) where
-        pub run_turns : Running j start (get_or s (i + 1) 0) r.at
-        run_turns =
-            let h : run (d.k - (i + 1)) (i + 1) j r.at ≡ run (d.k - i) i j q = rw (left, ← C.is, eq-eqb r.code 0 n, add-one i) in
-            lands (i + 1) j start r.at (omega arith) C.inside (h ∙ R.same)
+      pub run_turns : {p : ℕ} → Ran f (cell_step f d i j q) (Ok p) → Running j start (get_or s (i + 1) 0) p
+      run_turns {p} C =
+          let h : run (d.k - (i + 1)) (i + 1) j p ≡ run (d.k - i) i j q = rw (left, ← C.is, add-one i) in
+          lands (i + 1) j start p (omega arith) C.inside (h ∙ R.same)
 
-        pub run_less : i < get_or s (i + 1) 0
-        run_less = omega (arith, T.nexts (i + 1) (omega arith) (omega arith), next_least f d (d.k - (i + 1)) (i + 1))
-
-    pub run_ends : {j start i q : ℕ} → Running j start i q → d.k ≤ i → Ran f (run d.k 0 j start) (going q)
-    run_ends {i = i} R b = let e : d.k - i ≡ 0 = omega arith in record { is = rw e at R.same; inside = R.here }
+      pub run_less : i < get_or s (i + 1) 0
+      run_less = omega (arith, T.nexts (i + 1) (omega arith) (omega arith), next_least f d (d.k - (i + 1)) (i + 1))
 
   -- ---- the data
 
   -- no variable is strL: no row need be read
   module _ (e : next_long f d d.k 0 ≡ d.k) where
-    still : (j q : ℕ) → run d.k 0 j q ≡ going q
+    still : (j q : ℕ) → run d.k 0 j q ≡ Ok q
     still j q = let z : 0 + d.k - d.k ≡ 0 = omega arith in skips d.k 0 j q ∙ rw (e, z)
 
-    pub stays : (m j q : ℕ) → data_run f d m j q ≡ going q
+    pub stays : (m j q : ℕ) → data_run f d m j q ≡ Ok q
     stays zero j q = refl
     stays (suc m) j q = rw (still j q) (stays m (suc j) q)
 
-  pub pass_still : {t s : List ℕ} → Tabled f d t s → get_or s 0 0 ≡ d.k → (start : ℕ) → start ≤ length f → Ran f (data_run f d d.n 0 start) (going start)
+  pub pass_still : {t s : List ℕ} → Tabled f d t s → get_or s 0 0 ≡ d.k → (start : ℕ) → start ≤ length f → Ran f (data_run f d d.n 0 start) (Ok start)
   pass_still {s = s} T e start h =
       let g : next_long f d d.k 0 ≡ d.k = ap (λ (m : ℕ). next_long f d m 0) (sym (sub-zero d.k)) ∙ sym (T.nexts 0 (omega arith) (omega arith)) ∙ e in
       record { is = sym (stays g d.n 0 start); inside = h }
@@ -106,38 +101,27 @@ module _ (f : List ℕ) (d : Frame) where
     pub here : q ≤ length f
     pub same : data_run f d (d.n - j) j q ≡ data_run f d d.n 0 start
 
-  pub pass_starts : (start : ℕ) → start ≤ length f → Passing start 0 start
-  pass_starts start h = record { most = omega arith; here = h; same = rw sub-zero }
-
   module _ {start j q : ℕ} (P : Passing start j q) where
-    module _ (b : j < d.n) {r : Step} (C : Ran f (run d.k 0 j q) r) where
+    module _ (b : j < d.n) where
       rest : d.n - j ≡ suc (d.n - (j + 1))
       rest = omega arith
 
-      pub pass_stops : (r.code ≡ 0 → ⊥) → Ran f (data_run f d d.n 0 start) broken
-      pass_stops n =
-          let h : broken ≡ data_run f d (d.n - j) j q = rw (rest, ← C.is, ne_eqb r.code 0 n) in
-          record { is = h ∙ P.same; inside = omega arith }
+      pub pass_stops : (e : Refusal) → Ran f (run d.k 0 j q) (Err e) → Ran f (data_run f d d.n 0 start) (Err e)
+      pass_stops e C =
+          let h : Err e ≡ data_run f d (d.n - j) j q = rw (rest, ← C.is) in
+          record { is = h ∙ P.same; inside = tt }
 
-      pub pass_turns : r.code ≡ 0 → Passing start (j + 1) r.at
-      pass_turns n =
-          let h : data_run f d (d.n - (j + 1)) (j + 1) r.at ≡ data_run f d (d.n - j) j q = rw (rest, ← C.is, eq-eqb r.code 0 n, add-one j) in
+      pub pass_turns : {p : ℕ} → Ran f (run d.k 0 j q) (Ok p) → Passing start (j + 1) p
+      pass_turns {p} C =
+          let h : data_run f d (d.n - (j + 1)) (j + 1) p ≡ data_run f d (d.n - j) j q = rw (rest, ← C.is, add-one j) in
           record { most = omega arith; here = C.inside; same = h ∙ P.same }
-
-    pub pass_ends : d.n ≤ j → Ran f (data_run f d d.n 0 start) (going q)
-    pass_ends b = let e : d.n - j ≡ 0 = omega arith in record { is = rw e at P.same; inside = P.here }
 
   -- ---- the end
 
-  module _ (q : ℕ) (r : Step) (e : r ≡ data_run f d d.n 0 q) where
-    pub end_broken : (r.code ≡ 0 → ⊥) → 11 ≡ rule11 f d q
-    unfolding rule11
-    end_broken z = rw (← e, ne_eqb r.code 0 z)
+  pub end_refused : (q : ℕ) (e : Refusal) → Err e ≡ data_run f d d.n 0 q → Err e ≡ rule11 f d q
+  unfolding rule11
+  end_refused q e h = rw (← h)
 
-    pub end_at : r.code ≡ 0 → (b : Bool) → b ≡ long_next d.tagged f r.at → cond b 11 0 ≡ rule11 f d q
-    unfolding rule11
-    end_at z b g = rw (← e, eq-eqb r.code 0 z, ← g) (turn b)
-      where
-        turn : (t : Bool) → ◌≡◌ {A = ℕ} (cond t 11 0) (cond (not t) 0 11)
-        turn true = refl
-        turn false = refl
+  pub end_at : (q p : ℕ) → Ok p ≡ data_run f d d.n 0 q → (b : Bool) → b ≡ long_next d.tagged f p → cond b broken (Ok p) ≡ rule11 f d q
+  unfolding rule11
+  end_at q p h b g = rw (← h, ← g)

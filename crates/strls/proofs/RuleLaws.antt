@@ -4,7 +4,7 @@ use Prim.Native.Nat.{ℕ, zero, suc, ◌+◌, ◌-◌, ◌≤◌, ◌<◌}
 use native.Mathlib.Nat.{not-suc-le-zero, add-zero, zero-add}
 use native.Mathlib.Omega.{arith}
 use mathlib.Core.List.{List, [], ◌∷◌, ◌++◌, append_assoc, append-nil}
-use mathlib.Core.Bool.{Bool, true, false, cond, not, ◌||◌, ◌&&◌, and-false}
+use mathlib.Core.Bool.{Bool, true, false, cond, ◌||◌, ◌&&◌, and-false}
 use lib.ListN.{length, get_or}
 use lib.Dec.{eqb, leb, ltb}
 use borrow.Author.Tests.{eqb-true, eqb-false, eq-eqb, ne_eqb, le-leb, leb-true, leb-false}
@@ -16,10 +16,11 @@ use Rattle.codes.specs.declared.Field.{Field}
 use Rattle.codes.specs.Fields.{field_by}
 use Rattle.data.proofs.PlaceLaws.{type_at}
 use Rattle.data.proofs.PlaceLaws as P
-use Rattle.section.specs.declared.Step.{Step}
+use Rattle.std.specs.Prelude.{Ok}
+use Rattle.refusal.specs.Refusals.{code_of}
 use Rattle.strls.specs.declared.Frame.{Frame}
-use Rattle.strls.specs.Records.{order_of, kind_ok, head_size, kind_at, len_at, record_ok, record_size}
-use Rattle.strls.specs.Links.{str_l, place_of, is_long, link_at, self_at, link_ok, going, broken, pick, taken, cell_step, row_run, data_run, end_ok, rule11, Framed, cells_of}
+use Rattle.strls.specs.Records.{order_of, kind_ok, head_size, kind_at, len_at, record_ok}
+use Rattle.strls.specs.Links.{Turn, str_l, place_of, is_long, link_at, self_at, link_ok, broken, followed, record_step, cell_step, row_run, data_run, ended, rule11, Framed, cells_of}
 use Rattle.strls.proofs.RecordLaws.{long_at, tab_length}
 use Rattle.strls.proofs.WalkLaws.{Recs, none, some}
 use Rattle.strls.proofs.TableLaws.{never, long_type_lem, type_field_lem}
@@ -227,34 +228,30 @@ module _ (f : List ℕ) (d : Frame) (F : Framed f d) where
       (and_assoc (eqb v i && eqb x j) (kind_rule (long_at f d q)) (record_rule S L))
 
   -- what is left after a step: it went on, and the rest is judged by the records that are left; or it broke
-  data After (s : Step) (b : List (ℕ × ℕ) → Bool) : Type 0 where
-    on : (L : List LongString) → s.code ≡ 0 → Recs f d s.at L → ((S : List (ℕ × ℕ)) → b S ≡ record_rule S L) → After s b
-    off : (s.code ≡ 0 → ⊥) → ((S : List (ℕ × ℕ)) → b S ≡ false) → After s b
+  data After (s : Turn) (b : List (ℕ × ℕ) → Bool) : Type 0 where
+    on : (L : List LongString) (p : ℕ) → s ≡ Ok p → Recs f d p L → ((S : List (ℕ × ℕ)) → b S ≡ record_rule S L) → After s b
+    off : s ≡ broken → ((S : List (ℕ × ℕ)) → b S ≡ false) → After s b
 
-  after_as : {s : Step} {b e : List (ℕ × ℕ) → Bool} → After s b → ((S : List (ℕ × ℕ)) → e S ≡ b S) → After s e
-  after_as (on L z R h) g = on L z R (λ S. g S ∙ h S)
+  after_as : {s : Turn} {b e : List (ℕ × ℕ) → Bool} → After s b → ((S : List (ℕ × ℕ)) → e S ≡ b S) → After s e
+  after_as (on L p z R h) g = on L p z R (λ S. g S ∙ h S)
   after_as (off n h) g = off n (λ S. g S ∙ h S)
 
   abbrev cell_rule : List LongString → ℕ → ℕ → List (ℕ × ℕ) → Bool
   cell_rule L i j S =
       link_rule D (suc i) (suc j) (cell_at i j) && record_rule (cond (is_link (cell_at i j) (suc i) (suc j)) ((suc i, suc j) ∷ S) S) L
 
-  eleven : ◌≡◌ {A = ℕ} 11 0 → ⊥
-  eleven z = let e : ◌≡◌ {A = ℕ} 11 0 = z in omega arith
-
-  no_record : (q i j : ℕ) → long_next d.tagged f q ≡ false → record_size f d q i j ≡ 0
+  no_record : (q i j : ℕ) → long_next d.tagged f q ≡ false → record_ok f d q i j ≡ false
   unfolding record_ok
   no_record q i j g = rw (g, and-false)
 
-  after_record : (i j q : ℕ) (L : List LongString) → Recs f d q L → After (taken q (record_size f d q (suc i) (suc j))) (λ S. record_rule ((suc i, suc j) ∷ S) L)
-  after_record i j q [] (none g) = rw (no_record q (suc i) (suc j) g) (off eleven (λ S. refl))
+  after_record : (i j q : ℕ) (L : List LongString) → Recs f d q L → After (record_step f d q (suc i) (suc j)) (λ S. record_rule ((suc i, suc j) ∷ S) L)
+  after_record i j q [] (none g) = rw (no_record q (suc i) (suc j) g) (off refl (λ S. refl))
   after_record i j q (r ∷ L) (some g h R) = go (record_ok f d q (suc i) (suc j)) refl
     where
       go : (t : Bool) → record_ok f d q (suc i) (suc j) ≡ t
-          → After (taken q (cond (record_ok f d q (suc i) (suc j)) (head_size d + len_at f d q) 0)) (λ S. record_rule ((suc i, suc j) ∷ S) (long_at f d q ∷ L))
-      go true e = rw (e, ne_eqb (head_size d + len_at f d q) 0 (λ z. (let y : head_size d + len_at f d q ≡ 0 = z in omega arith)))
-          (on L refl R (λ S. record_is q (suc i) (suc j) S L g h ∙ rw e))
-      go false e = rw e (off eleven (λ S. record_is q (suc i) (suc j) S L g h ∙ rw e))
+          → After (cond t (Ok (q + (head_size d + len_at f d q))) broken) (λ S. record_rule ((suc i, suc j) ∷ S) (long_at f d q ∷ L))
+      go true e = on L (q + (head_size d + len_at f d q)) refl R (λ S. record_is q (suc i) (suc j) S L g h ∙ rw e)
+      go false e = off refl (λ S. record_is q (suc i) (suc j) S L g h ∙ rw e)
 
   after_cell : (i j q : ℕ) (L : List LongString) → i < d.k → Recs f d q L → After (cell_step f d i j q) (cell_rule L i j)
   unfolding cell_step
@@ -264,11 +261,11 @@ module _ (f : List ℕ) (d : Frame) (F : Framed f d) where
       seen q = link_of i j (suc i) (suc j) b ∙ rw q
 
       go : (t : Bool) → is_long f d i ≡ t → (u : Bool) → link_ok f d i j ≡ u → (w : Bool) → link_at f d (place_of f d i j) (suc i) (suc j) ≡ w
-          → After (pick (is_long f d i) (pick (link_ok f d i j) (pick (link_at f d (place_of f d i j) (suc i) (suc j)) (taken q (record_size f d q (suc i) (suc j))) (going q)) broken) (going q)) (cell_rule L i j)
+          → After (cond (is_long f d i) (cond (link_ok f d i j) (cond (link_at f d (place_of f d i j) (suc i) (suc j)) (record_step f d q (suc i) (suc j)) (Ok q)) broken) (Ok q)) (cell_rule L i j)
       go false a u c w e =
-          rw a (on L refl R (λ S. rw (plain_rule D (suc i) (suc j) (cell_at i j) (cell_other i j b a), plain_link (cell_at i j) (suc i) (suc j) (cell_other i j b a))))
-      go true a false c w e = rw (a, c) (off eleven (λ S. rw (link_rule_lem i j b a, c)))
-      go true a true c false e = rw (a, c, e) (on L refl R (λ S. rw (link_rule_lem i j b a, c, seen a, e)))
+          rw a (on L q refl R (λ S. rw (plain_rule D (suc i) (suc j) (cell_at i j) (cell_other i j b a), plain_link (cell_at i j) (suc i) (suc j) (cell_other i j b a))))
+      go true a false c w e = rw (a, c) (off refl (λ S. rw (link_rule_lem i j b a, c)))
+      go true a true c false e = rw (a, c, e) (on L q refl R (λ S. rw (link_rule_lem i j b a, c, seen a, e)))
       go true a true c true e = rw (a, c, e) (after_as (after_record i j q L R) (λ S. rw (link_rule_lem i j b a, c, seen a, e)))
 
   -- ---- rows
@@ -299,17 +296,17 @@ module _ (f : List ℕ) (d : Frame) (F : Framed f d) where
       (record_rule (cond (is_link (cell_at i j) (suc i) (suc j)) ((suc i, suc j) ∷ (selves m (suc i) j ++ S)) (selves m (suc i) j ++ S)) L)
 
   after_row : (m i j q : ℕ) (L : List LongString) → i + m ≤ d.k → Recs f d q L → After (row_run f d m i j q) (row_rule L m i j)
-  after_row zero i j q L b R = on L refl R (λ S. refl)
+  after_row zero i j q L b R = on L q refl R (λ S. refl)
   after_row (suc m) i j q L b R = go (after_cell i j q L (omega arith) R) (λ q L. after_row m (suc i) j q L (omega arith))
     where
       go : After (cell_step f d i j q) (cell_rule L i j) → ((q : ℕ) (L : List LongString) → Recs f d q L → After (row_run f d m (suc i) j q) (row_rule L m (suc i) j))
           → After (row_run f d (suc m) i j q) (row_rule L (suc m) i j)
-      go (on M z N h) ih =
-          rw (eq-eqb (cell_step f d i j q).code 0 z)
-          (after_as (ih (cell_step f d i j q).at M N) (λ S. row_split m i j L S ∙ ap (λ (b : Bool). refs m (suc i) j && b) (h (selves m (suc i) j ++ S))))
+      go (on M p z N h) ih =
+          rw z
+          (after_as (ih p M N) (λ S. row_split m i j L S ∙ ap (λ (b : Bool). refs m (suc i) j && b) (h (selves m (suc i) j ++ S))))
       go (off n h) ih =
-          rw (ne_eqb (cell_step f d i j q).code 0 n)
-          (off eleven (λ S. row_split m i j L S ∙ ap (λ (b : Bool). refs m (suc i) j && b) (h (selves m (suc i) j ++ S)) ∙ and-false (refs m (suc i) j)))
+          rw n
+          (off refl (λ S. row_split m i j L S ∙ ap (λ (b : Bool). refs m (suc i) j && b) (h (selves m (suc i) j ++ S)) ∙ and-false (refs m (suc i) j)))
 
   abbrev data_rule : List LongString → ℕ → ℕ → List (ℕ × ℕ) → Bool
   data_rule L m j S = data_links D (suc j) (rows_from m j) && record_rule (data_selves (suc j) (rows_from m j) ++ S) L
@@ -323,37 +320,37 @@ module _ (f : List ℕ) (d : Frame) (F : Framed f d) where
       ∙ and_swap (refs d.k 0 j) (data_links D (suc (suc j)) (rows_from m (suc j))) (record_rule (a ++ (b ++ S)) L)
 
   after_data : (m j q : ℕ) (L : List LongString) → Recs f d q L → After (data_run f d m j q) (data_rule L m j)
-  after_data zero j q L R = on L refl R (λ S. refl)
+  after_data zero j q L R = on L q refl R (λ S. refl)
   after_data (suc m) j q L R = go (after_row d.k 0 j q L (omega arith) R) (after_data m (suc j))
     where
       go : After (row_run f d d.k 0 j q) (row_rule L d.k 0 j) → ((q : ℕ) (L : List LongString) → Recs f d q L → After (data_run f d m (suc j) q) (data_rule L m (suc j)))
           → After (data_run f d (suc m) j q) (data_rule L (suc m) j)
-      go (on M z N h) ih =
-          rw (eq-eqb (row_run f d d.k 0 j q).code 0 z)
-          (after_as (ih (row_run f d d.k 0 j q).at M N) (λ S. data_split m j L S ∙ ap (λ (b : Bool). data_links D (suc (suc j)) (rows_from m (suc j)) && b) (h (data_selves (suc (suc j)) (rows_from m (suc j)) ++ S))))
+      go (on M p z N h) ih =
+          rw z
+          (after_as (ih p M N) (λ S. data_split m j L S ∙ ap (λ (b : Bool). data_links D (suc (suc j)) (rows_from m (suc j)) && b) (h (data_selves (suc (suc j)) (rows_from m (suc j)) ++ S))))
       go (off n h) ih =
-          rw (ne_eqb (row_run f d d.k 0 j q).code 0 n)
-          (off eleven (λ S. data_split m j L S ∙ ap (λ (b : Bool). data_links D (suc (suc j)) (rows_from m (suc j)) && b) (h (data_selves (suc (suc j)) (rows_from m (suc j)) ++ S)) ∙ and-false (data_links D (suc (suc j)) (rows_from m (suc j)))))
+          rw n
+          (off refl (λ S. data_split m j L S ∙ ap (λ (b : Bool). data_links D (suc (suc j)) (rows_from m (suc j)) && b) (h (data_selves (suc (suc j)) (rows_from m (suc j)) ++ S)) ∙ and-false (data_links D (suc (suc j)) (rows_from m (suc j)))))
 
   -- the pass over the bytes is the rule on the cells and on the records that stand from q on
-  rule_at : (q : ℕ) (L : List LongString) → Recs f d q L → rule11 f d q ≡ unless (linked D L) 11
+  rule_at : (q : ℕ) (L : List LongString) → Recs f d q L → code_of (rule11 f d q) ≡ unless (linked D L) 11
   unfolding rule11 linked
   rule_at q L R = go (after_data d.n 0 q L R)
     where
       whole : data_rule L d.n 0 [] ≡ (data_links D 1 D && record_rule (data_selves 1 D) L)
       whole = ap (λ (l : List (ℕ × ℕ)). data_links D 1 D && record_rule l L) (append-nil (data_selves 1 D))
 
-      end : (s : Step) (M : List LongString) → s.code ≡ 0 → Recs f d s.at M → end_ok f d s ≡ unless (record_rule [] M) 11
-      end s [] z (none g) = rw (eq-eqb s.code 0 z, g)
-      end s (r ∷ M) z (some g h N) = rw (eq-eqb s.code 0 z, g)
+      end : (p : ℕ) (M : List LongString) → Recs f d p M → code_of (ended f d p) ≡ unless (record_rule [] M) 11
+      end p [] (none g) = rw g
+      end p (r ∷ M) (some g h N) = rw g
 
-      go : After (data_run f d d.n 0 q) (data_rule L d.n 0) → end_ok f d (data_run f d d.n 0 q) ≡ unless (data_links D 1 D && record_rule (data_selves 1 D) L) 11
-      go (on M z N h) = end (data_run f d d.n 0 q) M z N ∙ ap (λ (b : Bool). unless b 11) (sym (h []) ∙ whole)
-      go (off n h) = rw (ne_eqb (data_run f d d.n 0 q).code 0 n) (ap (λ (b : Bool). unless b 11) (sym (h []) ∙ whole))
+      go : After (data_run f d d.n 0 q) (data_rule L d.n 0) → code_of (followed (data_run f d d.n 0 q) (ended f d)) ≡ unless (data_links D 1 D && record_rule (data_selves 1 D) L) 11
+      go (on M p z N h) = rw z (end p M N) ∙ ap (λ (b : Bool). unless b 11) (sym (h []) ∙ whole)
+      go (off n h) = rw n (ap (λ (b : Bool). unless b 11) (sym (h []) ∙ whole))
 
   cells_are : cells_of f d ≡ D
   unfolding cells_of
   cells_are = P.cells_are d.tagged (order_of d) f d.types d.vwidth d.owidth F.eight d.k d.data d.n F.typed.right
 
-  pub rule_is : (q : ℕ) (L : List LongString) → Recs f d q L → rule11 f d q ≡ unless (linked (cells_of f d) L) 11
+  pub rule_is : (q : ℕ) (L : List LongString) → Recs f d q L → code_of (rule11 f d q) ≡ unless (linked (cells_of f d) L) 11
   rule_is q L R = rule_at q L R ∙ ap (λ (x : List (List Cell)). unless (linked x L) 11) (sym cells_are)

@@ -1,32 +1,36 @@
 -- The long strings of a file, from the answers for their parts.
 use mathlib.Core.Path.{◌≡◌, refl, sym, ap, ◌∙◌, subst}
-use Prim.Native.Nat.{ℕ, zero, suc, ◌+◌, ◌-◌, ◌*◌, ◌≤◌}
-use native.Mathlib.Nat.{add-zero, zero-add}
+use Prim.Native.Nat.{ℕ, zero, suc, ◌+◌, ◌*◌, ◌≤◌}
+use native.Mathlib.Nat.{add-zero}
 use native.Mathlib.Omega.{arith}
 use mathlib.Core.List.{List, []}
 use mathlib.Core.Bool.{Bool, true, false, cond, ◌&&◌}
 use lib.ListN.{length}
 use lib.Dec.{leb}
-use Rattle.format.specs.Grammar.{Sect, also, idle, ruled, seq, walk, tag, read_times, times, row, row_width, within}
+use Rattle.format.specs.Grammar.{Sect, idle, ruled, seq, walk, tag, read_times, times, row, row_width, within}
 use Rattle.format.specs.Edition.{opening, closing, n_data, n_strls}
 use Rattle.format.specs.Variables.{VarType, text_type, strl_type, byte_type, int_type, long_type, float_type, double_type, type_by, has_type, type_code}
 use Rattle.format.specs.Data.{Cell, cell, cell_width, LongString, long_next, linked, observations, strls}
 use Rattle.format.proofs.StepLaws.{between_read}
 use Rattle.codes.specs.Fields.{field_by, field_of, unknown}
 use Rattle.data.specs.Places.{field_at, code_at}
-use Rattle.section.specs.declared.Step.{Step}
+use Rattle.std.specs.Prelude.{Ok, Err, IfOk, IsErr, is_err}
+use Rattle.std.proofs.lemmas.Result.{IfOk-at_ok, IfOk-weaker, IfOk-from_err}
+use Rattle.refusal.specs.declared.Refusal.{Refusal}
+use Rattle.refusal.specs.Refusals.{code_of}
 use Rattle.section.specs.Judged.{Judged}
-use Rattle.section.specs.Parts.{Closed}
-use Rattle.section.proofs.SeqLaws.{seq_refused, seq_on, tag_none}
+use Rattle.section.proofs.SeqLaws.{seq_refused, seq_on, regroup, tag_none}
 use Rattle.section.proofs.TagLaws.{opening_by, closing_by, tag_by}
 use Rattle.strls.specs.declared.Frame.{Frame}
-use Rattle.strls.specs.Records.{order_of, longs}
-use Rattle.strls.specs.Links.{str_l, is_long, next_long, going, rule11, Framed, cells_of}
+use Rattle.strls.specs.Records.{order_of, longs, linked_longs}
+use Rattle.strls.specs.Links.{Turn, str_l, is_long, next_long, rule11, Framed, cells_of}
 use Rattle.strls.proofs.RecordLaws.{Lo, next_none}
-use Rattle.strls.proofs.WalkLaws.{walk_starts, walk_ends, recs_read}
+use Rattle.strls.proofs.TableLaws.{never}
+use Rattle.strls.proofs.WalkLaws.{recs_read}
 use Rattle.section.proofs.WalkOn.{walk_on}
 use Rattle.strls.proofs.PassLaws.{stays}
 use Rattle.strls.proofs.RuleLaws.{rule_is}
+use Rattle.strls.proofs.EndLaws.{rule_ends}
 
 -- ---- an untagged edition has no strL variable, so number 11 never refuses
 
@@ -53,17 +57,11 @@ module _ (f : List ℕ) (d : Frame) where
     no_next zero i = sym (add-zero i)
     no_next (suc m) i = rw (no_long_lem i) (no_next m (suc i) ∙ omega arith)
 
-    no_rule : (q : ℕ) → 0 ≡ rule11 f d q
+    no_rule : (q : ℕ) → Ok q ≡ rule11 f d q
     unfolding rule11
     no_rule q =
         let e : next_long f d d.k 0 ≡ d.k = no_next d.k 0 ∙ omega arith in
         rw (stays f d e d.n 0 q, ← next_none d.tagged f q u)
-
-    -- nor has it a last tag
-    closed_none : (p : ℕ) → p ≤ length f → Closed (cond d.tagged (closing true n_strls) []) f p 0 (going p)
-    closed_none p b =
-        subst (λ (t : Bool). Closed (cond t (closing true n_strls) []) f p 0 (going p)) (sym u)
-        (record { code = (tag_none 4 f p b).code; ends = λ z. sym (add-zero p); inside = b })
 
   -- ---- the parts in turn
 
@@ -88,54 +86,60 @@ module _ (f : List ℕ) (d : Frame) where
   abbrev body : Sect (List LongString × (Unit {0} × Unit {0}))
   body = walk (long_next d.tagged) (Lo d) end
 
-  told_of : (p : ℕ) (r : Step) → Judged (seq first λ a. body) f p r → Judged whole f p r
+  told_of : (p : ℕ) (r : Turn) → Judged (seq first λ a. body) f p r → Judged whole f p r
   unfolding strls tag
   told_of p r j = record { code = j.code; ends = j.ends; inside = j.inside }
 
-  module _ (F : Framed f d) (p : ℕ) {a : Step} (A : Judged first f p a) where
-    pub first_refused : (a.code ≡ 0 → ⊥) → Judged whole f p a
-    first_refused n = told_of p a (seq_refused first (λ u. body) f p a A n)
+  -- ---- the records, then number 11
 
-    module _ (za : a.code ≡ 0) {e : Step} (E : Judged (longs d) f a.at e) where
-      from_records : (r : Step) → Judged (seq (longs d) λ v. end v.0) f a.at r → Judged whole f p r
-      from_records r j = told_of p r (seq_on first (λ u. body) f p a A za r (walk_on (long_next d.tagged) (Lo d) end f a.at r j))
+  module _ (p : ℕ) where
+    module _ (F : Framed f d) where
+      -- the records are right: number 11 decides
+      eleven : (q : ℕ) → Judged (longs d) f p (Ok q) → (r : Turn) → r ≡ rule11 f d p → IfOk r (λ x. x ≡ q) → Judged (linked_longs d cells) f p r
+      eleven q E r e h =
+          seq_on (longs d) (λ v. rule v.0) f p q E r
+          (record {
+            code = ap code_of e ∙ rule_is f d F p ((longs d).read f p).0 (recs_read f d p (sym E.code));
+            ends = IfOk-weaker r _ _ (λ x z. z ∙ sym (add-zero q)) h;
+            inside = IfOk-weaker r _ _ (λ x z. omega (arith, z, E.inside)) h;
+          })
 
-      pub records_refused : (e.code ≡ 0 → ⊥) → Judged whole f p e
-      records_refused n = from_records e (seq_refused (longs d) (λ v. end v.0) f a.at e E n)
+      pub eleven_refused : {q : ℕ} → Judged (longs d) f p (Ok q) → (r : Turn) → r ≡ rule11 f d p → IsErr r → Judged (linked_longs d cells) f p r
+      eleven_refused {q} E r e h = eleven q E r e (IfOk-from_err r _ h)
 
-      module _ (ze : e.code ≡ 0) {c : ℕ} (C : c ≡ rule11 f d a.at) where
-        abbrev l : List LongString
-        l = ((longs d).read f a.at).0
+      -- it does not refuse: then the records are right
+      pub eleven_passed : p ≤ length f → (r : Turn) → r ≡ rule11 f d p → is_err r ≡ false → Judged (linked_longs d cells) f p r
+      eleven_passed b (Ok q) e h = eleven q (IfOk-at_ok (λ (x : ℕ). Judged (longs d) f p (Ok x)) (sym e) (rule_ends f d p b)) (Ok q) e refl
+      eleven_passed b (Err x) e h = absurd (never (sym h))
 
-        eleven : c ≡ (rule l).judge f e.at
-        eleven = C ∙ rule_is f d F a.at l (recs_read f d a.at (sym E.code ∙ ze))
+  -- ---- between the tags
 
-        -- the last tag follows number 11
-        ended : {s : Step} → Closed (closing d.tagged n_strls) f e.at c s → Judged (end l) f e.at s
-        unfolding tag
-        ended {s} K =
-            let z : e.at + 0 ≡ e.at = add-zero e.at in
-            record {
-              code = K.code ∙ ap (λ (x : ℕ). also x (last.judge f e.at)) eleven ∙ ap (λ (x : ℕ). also ((rule l).judge f e.at) (last.judge f x)) (sym z);
-              ends = λ y. K.ends y ∙ ap (λ (x : ℕ). e.at + x) (sym (zero-add (length (closing d.tagged n_strls))));
-              inside = K.inside;
-            }
+  module _ (p : ℕ) where
+    pub first_refused : (e : Refusal) → Judged first f p (Err e) → Judged whole f p (Err e)
+    first_refused e j = told_of p (Err e) (seq_refused first (λ u. body) f p e j)
 
-        pub closed_judged : {s : Step} → Closed (cond d.tagged (closing true n_strls) []) f e.at c s → Judged whole f p s
-        closed_judged {s} K =
-            from_records s
-            (seq_on (longs d) (λ v. end v.0) f a.at e E ze s (ended (subst (λ (x : List ℕ). Closed x f e.at c s) (closing_by d.tagged n_strls) K)))
+    module _ {a : ℕ} (A : Judged first f p (Ok a)) where
+      from_linked : (r : Turn) → Judged (seq (linked_longs d cells) λ v. last) f a r → Judged whole f p r
+      from_linked r j =
+          told_of p r (seq_on first (λ u. body) f p a A r (walk_on (long_next d.tagged) (Lo d) end f a r (regroup (longs d) (λ v. rule v.0) last f a r j)))
+
+      pub linked_refused : (e : Refusal) → Judged (linked_longs d cells) f a (Err e) → Judged whole f p (Err e)
+      linked_refused e j = from_linked (Err e) (seq_refused (linked_longs d cells) (λ v. last) f a e j)
+
+      pub closed_judged : {b : ℕ} → Judged (linked_longs d cells) f a (Ok b) → (r : Turn) → Judged (tag (cond d.tagged (closing true n_strls) []) 4) f b r → Judged whole f p r
+      closed_judged {b} j r k = from_linked r (seq_on (linked_longs d cells) (λ v. last) f a b j r (tag_by 4 f b r (closing_by d.tagged n_strls) k))
 
   -- the first tag, as it is asked for
-  pub first_by : (p : ℕ) (r : Step) → Judged (tag (cond d.tagged (opening true n_strls) []) 4) f p r → Judged first f p r
+  pub first_by : (p : ℕ) (r : Turn) → Judged (tag (cond d.tagged (opening true n_strls) []) 4) f p r → Judged first f p r
   first_by p r j = tag_by 4 f p r (opening_by d.tagged n_strls) j
 
   -- an untagged edition has no long strings
-  pub none_there : Framed f d → d.tagged ≡ false → (p : ℕ) → p ≤ length f → Judged whole f p (going p)
+  pub none_there : Framed f d → d.tagged ≡ false → (p : ℕ) → p ≤ length f → Judged whole f p (Ok p)
   none_there F u p b =
-      let A : Judged first f p (going p) = subst (λ (t : Bool). Judged (tag (opening t n_strls) 4) f p (going p)) (sym u) (tag_none 4 f p b) in
-      let E : Judged (longs d) f p (going p) = walk_ends f d (walk_starts f d p b) (sym (next_none d.tagged f p u)) in
-      closed_judged F p A refl E refl (no_rule u p) (closed_none u p b)
+      let A : Judged first f p (Ok p) = subst (λ (t : Bool). Judged (tag (opening t n_strls) 4) f p (Ok p)) (sym u) (tag_none 4 f p b) in
+      let K : Judged (tag (cond d.tagged (closing true n_strls) []) 4) f p (Ok p) =
+      subst (λ (t : Bool). Judged (tag (cond t (closing true n_strls) []) 4) f p (Ok p)) (sym u) (tag_none 4 f p b) in
+      closed_judged p A (eleven_passed p F b (Ok p) (no_rule u p) refl) (Ok p) K
 
   -- the cells are those that the data section at q says
   pub cells_read : (q : ℕ) → d.data ≡ q + length (opening d.tagged n_data)

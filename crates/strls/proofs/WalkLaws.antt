@@ -1,17 +1,17 @@
 -- The walk over the records: what a loop over it uses, and what it leaves for number 11's rule.
 use mathlib.Core.Path.{◌≡◌, refl, sym, ap, ◌∙◌, subst}
-use Prim.Native.Nat.{ℕ, zero, suc, ◌+◌, ◌≤◌, ◌<◌}
+use Prim.Native.Nat.{ℕ, zero, suc, ◌+◌, ◌-◌, ◌≤◌, ◌<◌}
 use native.Mathlib.Nat.{add-zero}
 use native.Mathlib.Omega.{arith}
 use mathlib.Core.List.{List, [], ◌∷◌, ◌++◌, append_assoc, append-nil}
 use mathlib.Core.Bool.{Bool, true, false}
 use lib.ListN.{length}
-use Rattle.format.specs.Grammar.{Sect, also, next, idle, seq, walk, judge_walk, read_walk, sizes}
+use Rattle.format.specs.Grammar.{Sect, also, next, idle, judge_walk, read_walk}
 use Rattle.format.specs.Data.{LongString, long_next}
 use Rattle.format.proofs.Good.{also_left, also_right}
-use Rattle.section.specs.declared.Step.{Step}
+use Rattle.std.specs.Prelude.{Ok}
 use Rattle.section.specs.Judged.{Judged}
-use Rattle.section.proofs.WalkSteps.{walk_stop, walk_turn, turn_next, walk_last, last_next}
+use Rattle.section.proofs.WalkSteps.{Walked, walked_start, walked_turn, walked_less, walked_last}
 use Rattle.strls.specs.declared.Frame.{Frame}
 use Rattle.strls.specs.Records.{head_size, len_at, longs}
 use Rattle.strls.proofs.RecordLaws.{Lo, long_at, next_in, long_some, long_read, long_next_lem, long_there}
@@ -26,43 +26,25 @@ module _ (f : List ℕ) (d : Frame) where
   more_in g p m = omega (arith, next_in d.tagged g p m)
 
   -- the loop stands at q: what follows is judged as the whole is, and ends where it ends
-  pub record Walking (start q : ℕ) : Type 0 where
-    pub here : q ≤ length f
-    pub judged : (longs d).judge f q ≡ (longs d).judge f start
-    pub ended : next (longs d) f q ≡ next (longs d) f start
+  abbrev pub Walking : ℕ → ℕ → Type 0
+  Walking start q = Walked (longs d) f start q
 
   pub walk_starts : (start : ℕ) → start ≤ length f → Walking start start
-  walk_starts start b = record { here = b; judged = refl; ended = refl }
+  walk_starts start b = walked_start (longs d) f start b
 
   module _ {start q : ℕ} (w : Walking start q) where
-    module _ (g : more f q ≡ true) {s : Step} (j : Judged (Lo d) f q s) where
-      pub walk_refused : (s.code ≡ 0 → ⊥) → Judged (longs d) f start s
-      walk_refused n =
-          record {
-            code = walk_stop more (Lo d) (idle 0 0) more_in (long_some f d) f q g s.code j.code n ∙ w.judged;
-            ends = λ z. absurd (n z);
-            inside = j.inside;
-          }
+    module _ (g : more f q ≡ true) where
+      module _ {s : ℕ} (j : Judged (Lo d) f q (Ok s)) where
+        pub walk_goes : Walking start s
+        walk_goes = walked_turn more (Lo d) (idle 0 0) more_in (long_some f d) f start q w g j
 
-      module _ (z : s.code ≡ 0) where
-        pub walk_goes : Walking start s.at
-        walk_goes =
-            record {
-              here = j.inside;
-              judged = ap (λ (p : ℕ). (longs d).judge f p) (j.ends z) ∙ sym (walk_turn more (Lo d) (idle 0 0) more_in (long_some f d) f q g (sym z ∙ j.code)) ∙ w.judged;
-              ended = ap (λ (p : ℕ). next (longs d) f p) (j.ends z) ∙ sym (turn_next more (Lo d) (idle 0 0) more_in (long_some f d) f q g) ∙ w.ended;
-            }
+        pub walk_less : length f - s < length f - q
+        walk_less = walked_less more (Lo d) (idle 0 0) more_in (long_some f d) f start q w g j
 
-        pub walk_less : q < s.at
-        walk_less = omega (arith, j.ends z, long_some f d ((Lo d).read f q))
-
-    pub walk_ends : more f q ≡ false → Judged (longs d) f start (record { code = 0; at = q })
+    pub walk_ends : more f q ≡ false → Judged (longs d) f start (Ok q)
     walk_ends g =
-        record {
-          code = sym (walk_last more (Lo d) (idle 0 0) more_in (long_some f d) f q g) ∙ w.judged;
-          ends = λ z. sym (add-zero q) ∙ sym (last_next more (Lo d) (idle 0 0) more_in (long_some f d) f q g) ∙ w.ended;
-          inside = w.here;
-        }
+        walked_last more (Lo d) (idle 0 0) more_in (long_some f d) f start q w g (Ok q)
+        (record { code = refl; ends = sym (add-zero q); inside = w.inside })
 
   -- ---- what was walked over
 

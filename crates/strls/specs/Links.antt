@@ -1,17 +1,17 @@
 -- Number 11's rule over the bytes of a file: the references and the records, in one pass.
 -- Variables and observations are counted from 0 in places, from 1 in references.
-use Rattle.std.specs.Prelude.{◌≡◌, ℕ, zero, suc, ◌+◌, ◌-◌, ◌*◌, ◌≤◌, List, Bool, true, false, cond, not, ◌&&◌, ◌||◌, length, get_or, eqb, leb, ltb}
+use Rattle.std.specs.Prelude.{◌≡◌, ℕ, zero, suc, ◌+◌, ◌-◌, ◌*◌, ◌≤◌, List, Bool, true, false, cond, ◌&&◌, ◌||◌, length, get_or, eqb, leb, ltb, Result, Ok, Err, IfOk}
 use Rattle.format.specs.Number.{num}
 use Rattle.format.specs.Grammar.{read_times, row}
 use Rattle.format.specs.Variables.{type_code}
 use Rattle.format.specs.Data.{Cell, cell, long_next}
 use Rattle.codes.specs.declared.Kind.{Kind}
 use Rattle.codes.specs.declared.Kind.TheVariants.{Text, StrL, Byte, Int, Long, Float, Double, Unknown}
-use Rattle.section.specs.declared.Step.{Step}
-use Rattle.section.specs.Judged.{Judged}
+use Rattle.refusal.specs.declared.Refusal.{Refusal}
+use Rattle.refusal.specs.declared.Refusal.TheVariants.{WrongLongString}
 use Rattle.data.specs.Places.{field_at, off_at, place, Typed}
 use Rattle.strls.specs.declared.Frame.{Frame}
-use Rattle.strls.specs.Records.{order_of, longs, pair_at, record_size}
+use Rattle.strls.specs.Records.{order_of, head_size, len_at, pair_at, record_ok}
 
 -- the kind is strL
 abbrev pub str_l : Kind → Bool
@@ -28,19 +28,17 @@ str_l Unknown = false
 abbrev pub earlier : ℕ → ℕ → ℕ → ℕ → Bool
 earlier v x i j = ltb x j || (eqb x j && leb v i)
 
--- a step of the pass: a refusal, and where the next record is due
-abbrev pub going : ℕ → Step
-going q = record { code = 0; at = q }
+-- a step of the pass: where the next record is due, or a refusal
+abbrev pub Turn : Type 0
+Turn = Result ℕ Refusal
 
-abbrev pub broken : Step
-broken = record { code = 11; at = 0 }
+abbrev pub broken : Turn
+broken = Err WrongLongString
 
-abbrev pub pick : Bool → Step → Step → Step
-pick true a b = a
-pick false a b = b
-
-abbrev pub taken : ℕ → ℕ → Step
-taken q n = pick (eqb n 0) broken (going (q + n))
+-- the steps from there on follow it, where it does not refuse
+abbrev pub followed : Turn → (ℕ → Turn) → Turn
+followed (Ok q) k = k q
+followed (Err e) k = Err e
 
 module _ (f : List ℕ) (d : Frame) where
   -- ---- places
@@ -81,30 +79,34 @@ module _ (f : List ℕ) (d : Frame) where
 
   -- ---- the pass
 
+  -- the record of (v, x), due at q
+  abbrev pub record_step : ℕ → ℕ → ℕ → Turn
+  record_step q v x = cond (record_ok f d q v x) (Ok (q + (head_size d + len_at f d q))) broken
+
   -- variable i in observation j, where the record at q is due
-  unfoldable pub cell_step : ℕ → ℕ → ℕ → Step
+  unfoldable pub cell_step : ℕ → ℕ → ℕ → Turn
   cell_step i j q =
-      pick (is_long i)
-      (pick (link_ok i j) (pick (link_at (place_of i j) (suc i) (suc j)) (taken q (record_size f d q (suc i) (suc j))) (going q)) broken)
-      (going q)
+      cond (is_long i)
+      (cond (link_ok i j) (cond (link_at (place_of i j) (suc i) (suc j)) (record_step q (suc i) (suc j)) (Ok q)) broken)
+      (Ok q)
 
   -- m variables from i on
-  abbrev pub row_run : ℕ → ℕ → ℕ → ℕ → Step
-  row_run zero i j q = going q
-  row_run (suc m) i j q = pick (eqb (cell_step i j q).code 0) (row_run m (suc i) j (cell_step i j q).at) broken
+  abbrev pub row_run : ℕ → ℕ → ℕ → ℕ → Turn
+  row_run zero i j q = Ok q
+  row_run (suc m) i j q = followed (cell_step i j q) (row_run m (suc i) j)
 
   -- m observations from j on
-  abbrev pub data_run : ℕ → ℕ → ℕ → Step
-  data_run zero j q = going q
-  data_run (suc m) j q = pick (eqb (row_run d.k 0 j q).code 0) (data_run m (suc j) (row_run d.k 0 j q).at) broken
+  abbrev pub data_run : ℕ → ℕ → ℕ → Turn
+  data_run zero j q = Ok q
+  data_run (suc m) j q = followed (row_run d.k 0 j q) (data_run m (suc j))
 
   -- at the end no record is left
-  abbrev pub end_ok : Step → ℕ
-  end_ok s = cond (eqb s.code 0 && not (long_next d.tagged f s.at)) 0 11
+  abbrev pub ended : ℕ → Turn
+  ended q = cond (long_next d.tagged f q) broken (Ok q)
 
   -- number 11's rule, with the records from q on
-  unfoldable pub rule11 : ℕ → ℕ
-  rule11 q = end_ok (data_run d.n 0 q)
+  unfoldable pub rule11 : ℕ → Turn
+  rule11 q = followed (data_run d.n 0 q) ended
 
   -- ---- what is asked
 
@@ -134,12 +136,7 @@ module _ (f : List ℕ) (d : Frame) where
   cells_of =
       read_times (row (cell (order_of d) d.vwidth d.owidth) (read_times (type_code d.tagged (order_of d)) d.k f d.types)) d.n f d.data
 
--- r is number 11's answer with the records from q on; where it does not refuse, these are right and end at its place
-pub record Passed (f : List ℕ) (d : Frame) (q : ℕ) (r : Step) : Type 0 where
-  pub code : r.code ≡ rule11 f d q
-  pub ends : r.code ≡ 0 → Judged (longs d) f q r
-
 -- r is the step s, which stays in the file
-pub record Ran (f : List ℕ) (s r : Step) : Type 0 where
+pub record Ran (f : List ℕ) (s r : Turn) : Type 0 where
   pub is : r ≡ s
-  pub inside : r.at ≤ length f
+  pub inside : IfOk r (λ q. q ≤ length f)

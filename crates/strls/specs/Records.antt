@@ -1,8 +1,8 @@
 -- The records of long strings, over the bytes of a file.
-use Rattle.std.specs.Prelude.{ℕ, suc, ◌+◌, List, Bool, cond, ◌&&◌, ◌||◌, length, eqb, leb}
+use Rattle.std.specs.Prelude.{ℕ, suc, ◌+◌, List, Bool, ◌&&◌, ◌||◌, length, eqb, leb}
 use Rattle.format.specs.Number.{Order, order_by, num}
-use Rattle.format.specs.Grammar.{Sect, text_at, idle, walk}
-use Rattle.format.specs.Data.{LongString, long_next, long_record}
+use Rattle.format.specs.Grammar.{Sect, text_at, idle, ruled, seq, walk}
+use Rattle.format.specs.Data.{Cell, LongString, linked, long_next, long_record}
 use Rattle.strls.specs.declared.Frame.{Frame}
 
 -- the byte order
@@ -16,6 +16,10 @@ head_size d = 12 + d.rwidth
 -- the records alone
 abbrev pub longs : Frame → Sect (List LongString × Unit {0})
 longs d = walk (long_next d.tagged) (long_record d.tagged (order_of d) d.rwidth) λ l. idle 0 0
+
+-- the records, then number 11 of them and these cells
+abbrev pub linked_longs : Frame → List (List Cell) → Sect ((List LongString × Unit {0}) × Unit {0})
+linked_longs d c = seq (longs d) λ v. ruled (idle 0 0) (λ u. linked c v.0) 11
 
 -- kind 129: any bytes; kind 130: at least 2, the first zero is the last byte
 abbrev pub kind_ok : List ℕ → ℕ → ℕ → ℕ → Bool
@@ -40,7 +44,3 @@ module _ (f : List ℕ) (d : Frame) where
       && (long_next d.tagged f q
       && (pair_at (order_of d) 4 d.rwidth f (q + 3) v x
       && (leb (q + head_size d + len_at q) (length f) && kind_ok f (q + head_size d) (kind_at q) (len_at q))))
-
-  -- its size, 0 where there is none
-  abbrev pub record_size : ℕ → ℕ → ℕ → ℕ
-  record_size q v x = cond (record_ok q v x) (head_size d + len_at q) 0

@@ -4,11 +4,12 @@ ghost use Rattle.std.specs.Prelude.{◌≡◌, true, cond, ◌+◌, ◌*◌, ◌
 ghost use Rattle.format.specs.Number.{order_by};
 ghost use Rattle.format.specs.Data.{long_next, long_record, strls};
 ghost use Rattle.section.specs.Judged.{Judged};
-ghost use Rattle.strls.specs.Records.{order_of, longs, kind_ok, pair_at, record_size};
-ghost use Rattle.strls.specs.Links.{earlier, place_of, is_long, link_at, self_at, link_ok, taken, cell_step, row_run, data_run, Passed, Framed, Offsets, Nexts, Tabled, cells_of, Ran};
+ghost use Rattle.data.specs.Places.{field_at};
+ghost use Rattle.strls.specs.Records.{order_of, longs, linked_longs, kind_ok, pair_at};
+ghost use Rattle.strls.specs.Links.{earlier, place_of, is_long, link_at, self_at, link_ok, record_step, cell_step, row_run, data_run, rule11, Framed, Offsets, Nexts, Tabled, cells_of, Ran};
 
-use codes::Kind;
-use section::Step;
+use codes::{Field, Kind};
+use refusal::Refusal;
 
 // Where the type list and the data's first row stand, how many variables and observations there are, whether the edition has
 // tags, the byte order, and the widths of v and o in a cell and of o in a record.
@@ -25,64 +26,12 @@ pub struct Frame {
     pub rwidth: usize,
 }
 
-// Whether a record is next at `p`.
+// Whether a record is next at `p`. The three bytes are compared at once.
 fn gso_at(f: &[u8], p: usize, tagged: bool) -> bool
     requires { p ≤ length f.now }
     ensures { result ≡ long_next tagged f.now p }
 {
-    if !tagged {
-        return false;
-    }
-    if f.len() - p < 3 {
-        return false;
-    }
-    (f[p] == 71) & (f[p + 1] == 83) & (f[p + 2] == 79)
-}
-
-// Whether the numbers of `vw` and of `ow` bytes at `p` are `v` and `o`. Where the widths are constants, each number is one load.
-fn pair_at(f: &[u8], p: usize, vw: usize, ow: usize, msf: bool, v: usize, o: usize) -> bool
-    requires { (p + vw + ow ≤ length f.now) × (vw ≤ 8) × (ow ≤ 8) }
-    ensures { result ≡ pair_at (order_by msf) vw ow f.now p v o }
-{
-    if number::number(f, p, vw, msf) != v as u64 {
-        return false;
-    }
-    number::number(f, p + vw, ow, msf) == o as u64
-}
-
-// The record at `q`: whether it is whole.
-fn long_record(f: &[u8], d: Frame, q: usize) -> Step
-    requires { (q ≤ length f.now) × (d.rwidth ≤ 8) × (long_next d.tagged f.now q ≡ true) }
-    ensures { Judged (long_record d.tagged (order_of d) d.rwidth) f.now q result }
-{
-    let h = 12 + d.rwidth;
-    if f.len() - q < h {
-        return Step { code: 3, at: q };
-    }
-    let n = number::number(f, q + (8 + d.rwidth), 4, d.msf) as usize;
-    if f.len() - (q + h) < n {
-        return Step { code: 3, at: q };
-    }
-    Step {
-        code: 0,
-        at: q + (h + n),
-    }
-}
-
-// The records from `start` on.
-fn records(f: &[u8], d: Frame, start: usize) -> Step
-    requires { (start ≤ length f.now) × (d.rwidth ≤ 8) }
-    ensures { Judged (longs d) f.now start result }
-{
-    let mut q = start;
-    while gso_at(f, q, d.tagged) {
-        let s = long_record(f, d, q);
-        if s.code != 0 {
-            return s;
-        }
-        q = s.at;
-    }
-    Step { code: 0, at: q }
+    tagged && 3 <= f.len() - p && (f[p] == b'G') & (f[p + 1] == b'S') & (f[p + 2] == b'O')
 }
 
 // Whether contents of `n` bytes at `p` are right for their kind.
@@ -90,160 +39,10 @@ fn kind_ok(f: &[u8], p: usize, kind: u64, n: usize) -> bool
     requires { p + n ≤ length f.now }
     ensures { result ≡ kind_ok f.now p kind n }
 {
-    if kind == 129 {
-        return true;
-    }
-    if kind != 130 {
-        return false;
-    }
-    if n < 2 {
-        return false;
-    }
-    text::zero_last(f, p, n)
+    kind == 129 || kind == 130 && 2 <= n && text::zero_last(f, p, n)
 }
 
-// Whether a record whose numbers start at `p` is that of (`v`, `o`).
-fn named_at(f: &[u8], d: Frame, p: usize, v: usize, o: usize) -> bool
-    requires { (p + 4 + d.rwidth ≤ length f.now) × (d.rwidth ≤ 8) }
-    ensures { result ≡ pair_at (order_of d) 4 d.rwidth f.now p v o }
-{
-    if d.rwidth == 4 {
-        return pair_at(f, p, 4, 4, d.msf, v, o);
-    }
-    if d.rwidth == 8 {
-        return pair_at(f, p, 4, 8, d.msf, v, o);
-    }
-    pair_at(f, p, 4, d.rwidth, d.msf, v, o)
-}
-
-// The size of the record of (`v`, `o`) at `q`, 0 where no right one is there.
-fn record_size(f: &[u8], d: Frame, q: usize, v: usize, o: usize) -> usize
-    requires { (q ≤ length f.now) × (d.rwidth ≤ 8) }
-    ensures { (result ≡ record_size f.now d q v o) × (q + result ≤ length f.now) }
-{
-    let h = 12 + d.rwidth;
-    if f.len() - q < h {
-        return 0;
-    }
-    if !gso_at(f, q, d.tagged) {
-        return 0;
-    }
-    if !named_at(f, d, q + 3, v, o) {
-        return 0;
-    }
-    let n = number::number(f, q + (8 + d.rwidth), 4, d.msf) as usize;
-    if f.len() - (q + h) < n {
-        return 0;
-    }
-    let kind = number::number(f, q + (7 + d.rwidth), 1, d.msf);
-    if kind_ok(f, q + h, kind, n) { h + n } else { 0 }
-}
-
-// Whether variable `i` is strL.
-fn long_at(f: &[u8], d: Frame, i: usize) -> bool
-    requires { Framed f.now d × (i < d.k) }
-    ensures { result ≡ is_long f.now d i }
-{
-    let x = data::field_at(f, d.types, i, d.tagged, d.msf);
-    let kind = x.kind;
-    match kind {
-        Kind::Text => false,
-        Kind::StrL => true,
-        Kind::Byte => false,
-        Kind::Int => false,
-        Kind::Long => false,
-        Kind::Float => false,
-        Kind::Double => false,
-        Kind::Unknown => false,
-    }
-}
-
-// `x` where `b` holds, else `y`.
-fn choose(b: bool, x: u16, y: u16) -> u16
-    ensures { result ≡ cond b x y }
-{
-    if b { x } else { y }
-}
-
-// Into `s`, for each variable, the first strL variable at or after it, `k` where there is none.
-fn fill_nexts(s: &mut [u16; 32768], f: &[u8], d: Frame)
-    requires { Framed f.now d × (length s.old ≡ 32768) }
-    ensures { Nexts f.now d 0 s.new }
-{
-    let k = d.k;
-    s[k] = k as u16;
-    let mut i = k;
-    while 0 < i {
-        let y = s[i];
-        i -= 1;
-        s[i] = choose(long_at(f, d, i), i as u16, y);
-    }
-}
-
-// The variables' offsets in a row into `t`, and the row's width after them.
-fn fill_offsets(t: &mut [u32; 32768], f: &[u8], d: Frame)
-    requires { Framed f.now d × (length t.old ≡ 32768) }
-    ensures { Offsets f.now d d.k t.new }
-{
-    t[0] = 0;
-    let mut sum: u32 = 0;
-    let mut i: usize = 0;
-    while i < d.k {
-        let x = data::field_at(f, d.types, i, d.tagged, d.msf);
-        sum += x.width as u32;
-        i += 1;
-        t[i] = sum;
-    }
-}
-
-// Whether the strL cell at `p` is the reference (`v`, `o`).
-fn link_at(f: &[u8], d: Frame, p: usize, v: usize, o: usize) -> bool
-    requires { (p + 8 ≤ length f.now) × (d.vwidth + d.owidth ≡ 8) }
-    ensures { result ≡ link_at f.now d p v o }
-{
-    if d.vwidth == 4 {
-        return pair_at(f, p, 4, 4, d.msf, v, o);
-    }
-    if d.vwidth == 2 {
-        return pair_at(f, p, 2, 6, d.msf, v, o);
-    }
-    pair_at(f, p, d.vwidth, d.owidth, d.msf, v, o)
-}
-
-// Where the cell of variable `i` in observation `j` stands.
-fn place_of(f: &[u8], t: &[u32; 32768], s: &[u16; 32768], d: Frame, i: usize, j: usize) -> usize
-    requires { Tabled f.now d t.now s.now × (i < d.k) × (j < d.n) × (is_long f.now d i ≡ true) }
-    ensures { (result ≡ place_of f.now d i j) × (result + 8 ≤ length f.now) }
-{
-    let k = d.k;
-    d.data + j * (t[k] as usize) + t[i] as usize
-}
-
-// Whether cell (`v`, `o`) is strL and names itself.
-fn names_itself(f: &[u8], t: &[u32; 32768], s: &[u16; 32768], d: Frame, v: usize, o: usize) -> bool
-    requires { Tabled f.now d t.now s.now }
-    ensures { result ≡ self_at f.now d v o }
-{
-    if v < 1 {
-        return false;
-    }
-    if d.k < v {
-        return false;
-    }
-    if o < 1 {
-        return false;
-    }
-    if d.n < o {
-        return false;
-    }
-    let i = v - 1;
-    if s[i] as usize != i {
-        return false;
-    }
-    link_at(f, d, place_of(f, t, s, d, i, o - 1), v, o)
-}
-
-// Whether (`v`, `o`) is (`i`, `j`) or an earlier cell.
+// Whether (`v`, `o`) is (`i`, `j`) or an earlier cell. Each test is a branch of its own: joined, references are slower by a quarter.
 fn is_earlier(v: usize, o: usize, i: usize, j: usize) -> bool
     ensures { result ≡ earlier v o i j }
 {
@@ -256,154 +55,288 @@ fn is_earlier(v: usize, o: usize, i: usize, j: usize) -> bool
     v <= i
 }
 
-// Whether the reference at `p`, the strL cell of variable `i` in observation `j`, is right.
-fn link_ok(
-    f: &[u8],
-    t: &[u32; 32768],
-    s: &[u16; 32768],
+// Whether the numbers of `vw` and of `ow` bytes at `p` are `v` and `o`. Where the widths are constants, each number is one load.
+// No method of the pass, which a call would store whole: references were slower by a quarter.
+fn pair_at(f: &[u8], p: usize, vw: usize, ow: usize, msf: bool, v: usize, o: usize) -> bool
+    requires { (p + vw + ow ≤ length f.now) × (vw ≤ 8) × (ow ≤ 8) }
+    ensures { result ≡ pair_at (order_by msf) vw ow f.now p v o }
+{
+    number::number(f, p, vw, msf) == v as u64 && number::number(f, p + vw, ow, msf) == o as u64
+}
+
+// A pass over the data's strL cells: a file with its frame, and both tables, of the variables' offsets in a row and of the next strL
+// variables.
+#[derive(Clone, Copy)]
+struct Pass<'a> {
+    f: &'a [u8],
     d: Frame,
-    p: usize,
-    i: usize,
-    j: usize,
-) -> bool
-    requires { Tabled f.now d t.now s.now × (p ≡ place_of f.now d i j) × (p + 8 ≤ length f.now) × (i < d.k) × (j < d.n) }
-    ensures { result ≡ link_ok f.now d i j }
-{
-    if link_at(f, d, p, 0, 0) {
-        return true;
-    }
-    let v = number::number(f, p, d.vwidth, d.msf) as usize;
-    let o = number::number(f, p + d.vwidth, d.owidth, d.msf) as usize;
-    if !is_earlier(v, o, i + 1, j + 1) {
-        return false;
-    }
-    names_itself(f, t, s, d, v, o)
+    offsets: &'a [u32; 32768],
+    nexts: &'a [u16; 32768],
+    ghost tabled: { Tabled f.now d offsets.now nexts.now },
+    ghost counted: { d.n < 18446744073709551616 },
 }
 
-// The record of (`v`, `o`), due at `q`.
-fn record_step(f: &[u8], d: Frame, q: usize, v: usize, o: usize) -> Step
-    requires { (q ≤ length f.now) × (d.rwidth ≤ 8) }
-    ensures { Ran f.now (taken q (record_size f.now d q v o)) result }
-{
-    let n = record_size(f, d, q, v, o);
-    if n == 0 {
-        return Step { code: 11, at: 0 };
+impl<'a> Pass<'a> {
+    // Whether a record whose numbers start at `p` is that of (`v`, `o`).
+    fn named_at(self, p: usize, v: usize, o: usize) -> bool
+        requires { p + 4 + self.d.rwidth ≤ length self.f.now }
+        ensures { result ≡ pair_at (order_of self.entry.d) 4 self.entry.d.rwidth self.entry.f.now p v o }
+    {
+        match self.d.rwidth {
+            4 => pair_at(self.f, p, 4, 4, self.d.msf, v, o),
+            8 => pair_at(self.f, p, 4, 8, self.d.msf, v, o),
+            w => pair_at(self.f, p, 4, w, self.d.msf, v, o),
+        }
     }
-    Step { code: 0, at: q + n }
+
+    // The record of (`v`, `o`), due at `q`: where the next one is due. Refused where no right and whole one is there.
+    #[tactic(auto, unfolding(crate::specs::Records::record_ok))]
+    fn record_step(self, q: usize, v: usize, o: usize) -> Result<usize, Refusal>
+        requires { q ≤ length self.f.now }
+        ensures { Ran self.entry.f.now (record_step self.entry.f.now self.entry.d q v o) result }
+    {
+        let f = self.f;
+        let w = self.d.rwidth;
+        let h = 12 + w;
+        if f.len() - q < h || !gso_at(f, q, self.d.tagged) || !self.named_at(q + 3, v, o) {
+            return Err(Refusal::WrongLongString);
+        }
+        let at = q + h;
+        let n = number::number(f, q + (8 + w), 4, self.d.msf) as usize;
+        let kind = number::number(f, q + (7 + w), 1, self.d.msf);
+        if f.len() - at < n || !kind_ok(f, at, kind, n) {
+            return Err(Refusal::WrongLongString);
+        }
+        Ok(at + n)
+    }
+
+    // Whether the strL cell at `p` is the reference (`v`, `o`).
+    fn link_at(self, p: usize, v: usize, o: usize) -> bool
+        requires { p + 8 ≤ length self.f.now }
+        ensures { result ≡ link_at self.entry.f.now self.entry.d p v o }
+    {
+        match self.d.vwidth {
+            4 => pair_at(self.f, p, 4, 4, self.d.msf, v, o),
+            2 => pair_at(self.f, p, 2, 6, self.d.msf, v, o),
+            w => pair_at(self.f, p, w, self.d.owidth, self.d.msf, v, o),
+        }
+    }
+
+    // Where the cell of variable `i` in observation `j` stands.
+    fn place_of(self, i: usize, j: usize) -> usize
+        requires { (i < self.d.k) × (j < self.d.n) × (is_long self.f.now self.d i ≡ true) }
+        ensures { (result ≡ place_of self.entry.f.now self.entry.d i j) × (result + 8 ≤ length self.entry.f.now) }
+    {
+        self.d.data + j * (self.offsets[self.d.k] as usize) + self.offsets[i] as usize
+    }
+
+    // Whether cell (`v`, `o`) is strL and names itself. As in `is_earlier`, the tests are branches.
+    fn names_itself(self, v: usize, o: usize) -> bool
+        ensures { result ≡ self_at self.entry.f.now self.entry.d v o }
+    {
+        if v < 1 || self.d.k < v {
+            return false;
+        }
+        if o < 1 || self.d.n < o {
+            return false;
+        }
+        let i = v - 1;
+        self.nexts[i] as usize == i && self.link_at(self.place_of(i, o - 1), v, o)
+    }
+
+    // Whether the reference at `p`, the strL cell of variable `i` in observation `j`, is right.
+    #[tactic(auto, unfolding(crate::specs::Links::link_ok))]
+    fn link_ok(self, p: usize, i: usize, j: usize) -> bool
+        requires { (p ≡ place_of self.f.now self.d i j) × (p + 8 ≤ length self.f.now) × (i < self.d.k) × (j < self.d.n) }
+        ensures { result ≡ link_ok self.entry.f.now self.entry.d i j }
+    {
+        if self.link_at(p, 0, 0) {
+            return true;
+        }
+        let d = self.d;
+        let v = number::number(self.f, p, d.vwidth, d.msf) as usize;
+        let o = number::number(self.f, p + d.vwidth, d.owidth, d.msf) as usize;
+        if !is_earlier(v, o, i + 1, j + 1) {
+            return false;
+        }
+        self.names_itself(v, o)
+    }
+
+    // The strL variable `i` in observation `j`, where the record at `q` is due. A cell that names itself is right: no other is looked at.
+    #[tactic(auto, unfolding(crate::specs::Links::cell_step), using(crate::proofs::LinkLaws::ref_own))]
+    fn cell_step(self, i: usize, j: usize, q: usize) -> Result<usize, Refusal>
+        requires { (i < self.d.k) × (j < self.d.n) × (is_long self.f.now self.d i ≡ true) × (q ≤ length self.f.now) }
+        ensures { Ran self.entry.f.now (cell_step self.entry.f.now self.entry.d i j q) result }
+    {
+        let p = self.place_of(i, j);
+        if self.link_at(p, i + 1, j + 1) {
+            return self.record_step(q, i + 1, j + 1);
+        }
+        if self.link_ok(p, i, j) {
+            Ok(q)
+        } else {
+            Err(Refusal::WrongLongString)
+        }
+    }
+
+    // The strL cells of observation `j`.
+    fn row_run(self, j: usize, start: usize) -> Result<usize, Refusal>
+        requires { (j < self.d.n) × (start ≤ length self.f.now) }
+        ensures { Ran self.entry.f.now (row_run self.entry.f.now self.entry.d self.entry.d.k 0 j start) result }
+    {
+        let mut q = start;
+        let mut i = self.nexts[0] as usize;
+        while i < self.d.k {
+            q = self.cell_step(i, j, q)?;
+            i = self.nexts[i + 1] as usize;
+        }
+        Ok(q)
+    }
+
+    // All observations; none is read where no variable is strL.
+    fn data_run(self, start: usize) -> Result<usize, Refusal>
+        requires { start ≤ length self.f.now }
+        ensures { Ran self.entry.f.now (data_run self.entry.f.now self.entry.d self.entry.d.n 0 start) result }
+    {
+        if self.nexts[0] as usize == self.d.k {
+            return Ok(start);
+        }
+        let mut q = start;
+        for j in 0..self.d.n {
+            q = self.row_run(j, q)?;
+        }
+        Ok(q)
+    }
 }
 
-// The strL variable `i` in observation `j`, where the record at `q` is due. A cell that names itself is right: no other is looked at.
-fn cell_step(
-    f: &[u8],
-    t: &[u32; 32768],
-    s: &[u16; 32768],
+// A file with the frame of its long strings.
+#[derive(Clone, Copy)]
+struct Strls<'a> {
+    f: &'a [u8],
     d: Frame,
-    i: usize,
-    j: usize,
-    q: usize,
-) -> Step
-    requires { Tabled f.now d t.now s.now × (i < d.k) × (j < d.n) × (is_long f.now d i ≡ true) × (q ≤ length f.now) }
-    ensures { Ran f.now (cell_step f.now d i j q) result }
-{
-    let p = place_of(f, t, s, d, i, j);
-    if link_at(f, d, p, i + 1, j + 1) {
-        return record_step(f, d, q, i + 1, j + 1);
-    }
-    if !link_ok(f, t, s, d, p, i, j) {
-        return Step { code: 11, at: 0 };
-    }
-    Step { code: 0, at: q }
+    ghost framed: { Framed f.now d },
+    ghost counted: { d.n < 18446744073709551616 },
 }
 
-// The strL cells of observation `j`.
-fn row_run(f: &[u8], t: &[u32; 32768], s: &[u16; 32768], d: Frame, j: usize, start: usize) -> Step
-    requires { Tabled f.now d t.now s.now × (j < d.n) × (start ≤ length f.now) }
-    ensures { Ran f.now (row_run f.now d d.k 0 j start) result }
-{
-    let mut q = start;
-    let mut i = s[0] as usize;
-    while i < d.k {
-        let c = cell_step(f, t, s, d, i, j, q);
-        if c.code != 0 {
-            return Step { code: 11, at: 0 };
+impl<'a> Strls<'a> {
+    // The record at `q`: whether it is whole.
+    fn long_record(self, q: usize) -> Result<usize, Refusal>
+        requires { (q ≤ length self.f.now) × (long_next self.d.tagged self.f.now q ≡ true) }
+        ensures { Judged (long_record self.entry.d.tagged (order_of self.entry.d) self.entry.d.rwidth) self.entry.f.now q result }
+    {
+        let f = self.f;
+        let w = self.d.rwidth;
+        let h = 12 + w;
+        if f.len() - q < h {
+            return Err(Refusal::CutShort);
         }
-        q = c.at;
-        i += 1;
-        i = s[i] as usize;
-    }
-    Step { code: 0, at: q }
-}
-
-// All observations; none is read where no variable is strL.
-fn data_run(f: &[u8], t: &[u32; 32768], s: &[u16; 32768], d: Frame, start: usize) -> Step
-    requires { Tabled f.now d t.now s.now × (start ≤ length f.now) }
-    ensures { Ran f.now (data_run f.now d d.n 0 start) result }
-{
-    if s[0] as usize == d.k {
-        return Step { code: 0, at: start };
-    }
-    let mut q = start;
-    let mut j: usize = 0;
-    while j < d.n {
-        let c = row_run(f, t, s, d, j, q);
-        if c.code != 0 {
-            return Step { code: 11, at: 0 };
+        let n = number::number(f, q + (8 + w), 4, self.d.msf) as usize;
+        if f.len() - (q + h) < n {
+            return Err(Refusal::CutShort);
         }
-        q = c.at;
-        j += 1;
+        Ok(q + (h + n))
     }
-    Step { code: 0, at: q }
-}
 
-// Number 11: the references, and the records from `start` on. Where it does not refuse, it has passed all records.
-fn rule_11(f: &[u8], d: Frame, start: usize) -> Step
-    requires { Framed f.now d × (start ≤ length f.now) }
-    ensures { Passed f.now d start result }
-{
-    let mut t = [0u32; 32768];
-    fill_offsets(&mut t, f, d);
-    let mut s = [0u16; 32768];
-    fill_nexts(&mut s, f, d);
-    let c = data_run(f, &t, &s, d, start);
-    if c.code != 0 {
-        return Step {
-            code: 11,
-            at: start,
+    // The records from `start` on.
+    fn records(self, start: usize) -> Result<usize, Refusal>
+        requires { start ≤ length self.f.now }
+        ensures { Judged (longs self.entry.d) self.entry.f.now start result }
+    {
+        let mut q = start;
+        while gso_at(self.f, q, self.d.tagged) {
+            q = self.long_record(q)?;
+        }
+        Ok(q)
+    }
+
+    // Kind and width of the cells of variable `i`.
+    fn field_at(self, i: usize) -> Field
+        requires { i < self.d.k }
+        ensures { result ≡ field_at self.entry.d.tagged (order_of self.entry.d) self.entry.f.now self.entry.d.types i }
+    {
+        data::field_at(self.f, self.d.types, i, self.d.tagged, self.d.msf)
+    }
+
+    // Whether variable `i` is strL.
+    #[tactic(auto, unfolding(crate::specs::Links::is_long))]
+    fn long_at(self, i: usize) -> bool
+        requires { i < self.d.k }
+        ensures { result ≡ is_long self.entry.f.now self.entry.d i }
+    {
+        matches!(self.field_at(i).kind, Kind::StrL)
+    }
+
+    // Into `nexts`, for each variable, the first strL variable at or after it, `k` where there is none.
+    fn fill_nexts(self, nexts: &mut [u16; 32768])
+        ensures { Nexts self.entry.f.now self.entry.d 0 nexts.new }
+    {
+        let k = self.d.k;
+        nexts[k] = k as u16;
+        for i in (0..k).rev() {
+            nexts[i] = if self.long_at(i) {
+                i as u16
+            } else {
+                nexts[i + 1]
+            };
+        }
+    }
+
+    // The variables' offsets in a row into `offsets`, and the row's width after them.
+    fn fill_offsets(self, offsets: &mut [u32; 32768])
+        ensures { Offsets self.entry.f.now self.entry.d self.entry.d.k offsets.new }
+    {
+        offsets[0] = 0;
+        let mut sum: u32 = 0;
+        for i in 0..self.d.k {
+            sum += self.field_at(i).width as u32;
+            offsets[i + 1] = sum;
+        }
+    }
+
+    // Number 11: the references, and the records from `start` on. Where it does not refuse, it has passed all records.
+    fn rule_11(self, start: usize) -> Result<usize, Refusal>
+        requires { start ≤ length self.f.now }
+        ensures { Ran self.entry.f.now (rule11 self.entry.f.now self.entry.d start) result }
+    {
+        let mut offsets = [0u32; 32768];
+        self.fill_offsets(&mut offsets);
+        let mut nexts = [0u16; 32768];
+        self.fill_nexts(&mut nexts);
+        let pass = Pass {
+            f: self.f,
+            d: self.d,
+            offsets: &offsets,
+            nexts: &nexts,
         };
+        let end = pass.data_run(start)?;
+        if gso_at(self.f, end, self.d.tagged) {
+            return Err(Refusal::WrongLongString);
+        }
+        Ok(end)
     }
-    if gso_at(f, c.at, d.tagged) {
-        return Step { code: 11, at: c.at };
-    }
-    Step { code: 0, at: c.at }
-}
 
-// The records from `start` on, of which number 11 says `c`. Only where it refuses are they walked over: 3 comes before 11.
-fn records_by(f: &[u8], d: Frame, start: usize, c: Step) -> Step
-    requires { (start ≤ length f.now) × (d.rwidth ≤ 8) × Passed f.now d start c }
-    ensures { Judged (longs d) f.now start result }
-{
-    if c.code == 0 {
-        return c;
+    // The records from `start` on, then number 11. Only where it refuses are they walked over: 3 comes before 11.
+    fn linked_records(self, start: usize) -> Result<usize, Refusal>
+        requires { start ≤ length self.f.now }
+        ensures { Judged (linked_longs self.entry.d (cells_of self.entry.f.now self.entry.d)) self.entry.f.now start result }
+    {
+        let passed = self.rule_11(start);
+        if passed.is_err() {
+            self.records(start)?;
+        }
+        passed
     }
-    records(f, d, start)
 }
 
 // The long strings at `p`: the records, then number 11, then the closing tag. An untagged edition has none.
-pub fn strl_list(f: &[u8], p: usize, d: Frame) -> Step
+pub fn strl_list(f: &[u8], p: usize, d: Frame) -> Result<usize, Refusal>
     requires { Framed f.now d × (p ≤ length f.now) }
     ensures { Judged (strls d.tagged (order_of d) d.rwidth (cells_of f.now d)) f.now p result }
 {
     if !d.tagged {
-        return Step { code: 0, at: p };
+        return Ok(p);
     }
-    let a = section::tag_if(f, p, b"<strls>", 4, d.tagged);
-    if a.code != 0 {
-        return a;
-    }
-    let c = rule_11(f, d, a.at);
-    let e = records_by(f, d, a.at, c);
-    if e.code != 0 {
-        return e;
-    }
-    section::closed(f, e.at, c.code, b"</strls>", d.tagged)
+    let start = section::tag_if(f, p, b"<strls>", Refusal::WrongTag, d.tagged)?;
+    let end = Strls { f, d }.linked_records(start)?;
+    section::tag_if(f, end, b"</strls>", Refusal::WrongTag, d.tagged)
 }

@@ -6,10 +6,11 @@ use native.Mathlib.Nat.{add-zero, zero-add, add-suc, sub-zero}
 use native.Mathlib.Numerals.{add-one}
 use mathlib.Core.List.{List, [], ◌∷◌, ◌++◌}
 use mathlib.Core.Bool.{Bool, true, false, not, ◌&&◌, ◌||◌, and-false, true≢false}
-use lib.ListN.{length, get_or, take, drop, replicate, length-drop, drop_of_length-le}
+use lib.ListN.{length, get_or, take, drop, replicate, length-drop}
 use lib.Seq.{drop-cons, take-suc, get_or-take, get_or-drop, length-take-le, ext_get_or}
 use lib.Dec.{eqb}
 use borrow.Author.Tests.{eq-eqb, ne_eqb, eqb-true, eqb-false, le-leb, lt-leb}
+use Rattle.std.specs.List.{starts_with}
 use Rattle.format.specs.Slot.{fill}
 use Rattle.format.specs.Grammar.{unless, text_at, text_slots, raw, same_at, tag}
 use Rattle.format.proofs.SlotLaws.{length_tab, get_d_tab}
@@ -166,17 +167,19 @@ module _ (f : List ℕ) where
 
 -- ---- the comparison of a tag
 
-module _ (t f : List ℕ) (p i : ℕ) where
-  pub same_turn : i < length t → get_or f (p + i) 0 ≡ get_or t i 0 → same_at (drop i t) f (p + i) ≡ same_at (drop (i + 1) t) f (p + (i + 1))
-  same_turn b e =
-      let g : p + (i + 1) ≡ suc (p + i) = omega arith in
-      rw (drop-cons t i 0 b, g, add-one i, eq-eqb (get_or f (p + i) 0) (get_or t i 0) e)
+eqb_turned : (a b : ℕ) → eqb a b ≡ eqb b a
+eqb_turned a b = go (eqb b a) refl
+  where
+    go : (t : Bool) → eqb b a ≡ t → eqb a b ≡ t
+    go true e = eq-eqb a b (sym (eqb-true b a e))
+    go false e = ne_eqb a b (λ z. eqb-false b a e (sym z))
 
-  pub same_stop : i < length t → (get_or f (p + i) 0 ≡ get_or t i 0 → ⊥) → same_at (drop i t) f (p + i) ≡ false
-  same_stop b e = rw (drop-cons t i 0 b, ne_eqb (get_or f (p + i) 0) (get_or t i 0) e)
-
-  pub same_none : length t ≤ i → same_at (drop i t) f (p + i) ≡ true
-  same_none b = rw (drop_of_length-le t {i = i} b)
+-- the bytes of t stand at p where they are what the file from p on starts with
+pub same_starts : (t f : List ℕ) (p : ℕ) → p + length t ≤ length f → starts_with eqb (drop p f) t ≡ same_at t f p
+same_starts [] f p b = refl
+same_starts (x ∷ t) f p b =
+    let h : p < length f = omega arith in
+    rw (drop-cons f p 0 h, eqb_turned x (get_or f p 0), same_starts t f (suc p) (omega arith))
 
 module _ (t : List ℕ) (c : ℕ) (f : List ℕ) (p : ℕ) where
   pub tag_short : length f < p + length t → (tag t c).judge f p ≡ 3

@@ -3,7 +3,10 @@
 ghost use Rattle.std.specs.Prelude.{◌≡◌, ◌++◌, false, ℕ, suc, ◌+◌, ◌≤◌, ◌<◌, length, take, drop, replicate, eqb};
 ghost use Rattle.format.specs.Slot.{fill};
 ghost use Rattle.format.specs.Grammar.{text_at, text_slots, same_at, tag};
+ghost use Rattle.refusal.specs.Refusals.{number_of, code_of};
 ghost use Rattle.text.specs.Texts.{IsTextLength, has_zero};
+
+use refusal::Refusal;
 
 // Whether there is a zero among the `b` bytes at `p`. It looks at all of them: where `b` is a constant, they are compared at once.
 fn has_zero(f: &[u8], p: usize, b: usize) -> bool
@@ -11,10 +14,8 @@ fn has_zero(f: &[u8], p: usize, b: usize) -> bool
     ensures { result ≡ has_zero b f.now p }
 {
     let mut any = false;
-    let mut k: usize = 0;
-    while k < b {
-        any = any | (f[p + k] == 0);
-        k += 1;
+    for k in 0..b {
+        any |= f[p + k] == 0;
     }
     any
 }
@@ -39,10 +40,7 @@ fn pass_start(f: &[u8], p: usize, w: usize) -> usize
     requires { p + w ≤ length f.now }
     ensures { (result ≤ w) × (has_zero result f.now p ≡ false) }
 {
-    if w < 8 {
-        return 0;
-    }
-    if has_zero(f, p, 8) {
+    if w < 8 || has_zero(f, p, 8) {
         return 0;
     }
     let m = pass_blocks(f, p, w, 8, 32);
@@ -54,14 +52,12 @@ pub fn text_len(f: &[u8], p: usize, w: usize) -> usize
     requires { p + w ≤ length f.now }
     ensures { IsTextLength w f.now p result }
 {
-    let mut n = pass_start(f, p, w);
-    while n < w {
+    for n in pass_start(f, p, w)..w {
         if f[p + n] == 0 {
             return n;
         }
-        n += 1;
     }
-    n
+    w
 }
 
 // Whether there is a zero among the `n` bytes at `p`, by blocks of `b` bytes. The last block ends with them, and may overlap the one before.
@@ -85,16 +81,12 @@ fn zero_in(f: &[u8], p: usize, n: usize) -> bool
     requires { p + n ≤ length f.now }
     ensures { result ≡ has_zero n f.now p }
 {
-    if n < 8 {
-        return has_zero(f, p, n);
+    match n {
+        0..=7 => has_zero(f, p, n),
+        8..=31 => zero_by(f, p, n, 8),
+        32..=63 => zero_by(f, p, n, 32),
+        _ => zero_by(f, p, n, 64),
     }
-    if n < 32 {
-        return zero_by(f, p, n, 8);
-    }
-    if n < 64 {
-        return zero_by(f, p, n, 32);
-    }
-    zero_by(f, p, n, 64)
 }
 
 // Whether the text in the field of `n` bytes at `p` is one byte shorter than the field: the last byte is a zero, and no other is.
@@ -112,11 +104,7 @@ pub fn put_bytes(out: &mut [u8], f: &[u8], p: usize, m: usize)
     requires { (p + m ≤ length f.now) × (m ≤ length out.old) }
     ensures { out.new ≡ take m (drop p f.now) ++ drop m out.old }
 {
-    let mut i: usize = 0;
-    while i < m {
-        out[i] = f[p + i];
-        i += 1;
-    }
+    out[..m].copy_from_slice(&f[p..p + m]);
 }
 
 // Puts `m` zeros at the start of `out`.
@@ -124,11 +112,7 @@ pub fn put_zeros(out: &mut [u8], m: usize)
     requires { m ≤ length out.old }
     ensures { out.new ≡ replicate m 0 ++ drop m out.old }
 {
-    let mut j: usize = 0;
-    while j < m {
-        out[j] = 0;
-        j += 1;
-    }
+    out[..m].fill(0);
 }
 
 // Copies the text in the field of `w` bytes at `p` into a field of `n` bytes at the start of `out`, with zeros after it.
@@ -146,23 +130,20 @@ pub fn same_at(f: &[u8], p: usize, t: &[u8]) -> bool
     requires { p + length t.now ≤ length f.now }
     ensures { result ≡ same_at t.now f.now p }
 {
-    let mut k: usize = 0;
-    while k < t.len() {
-        if f[p + k] != t[k] {
-            return false;
-        }
-        k += 1;
-    }
-    true
+    f[p..].starts_with(t)
 }
 
-// The refusal number of the tag `t` at `p`: 3 where the file is too short, `c` where its bytes differ, else 0.
-pub fn tag_at(f: &[u8], p: usize, t: &[u8], c: u8) -> u8
+// Whether the tag `t` stands at `p`: cut short where the file ends before the tag does, `refusal` where its bytes differ.
+pub fn tag_at(f: &[u8], p: usize, t: &[u8], refusal: Refusal) -> Result<(), Refusal>
     requires { p ≤ length f.now }
-    ensures { result ≡ (tag t.now c).judge f.now p }
+    ensures { code_of result ≡ (tag t.now (number_of refusal)).judge f.now p }
 {
     if f.len() - p < t.len() {
-        return 3;
+        return Err(Refusal::CutShort);
     }
-    if same_at(f, p, t) { 0 } else { c }
+    if same_at(f, p, t) {
+        Ok(())
+    } else {
+        Err(refusal)
+    }
 }

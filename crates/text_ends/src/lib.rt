@@ -23,11 +23,9 @@ pub fn fill_ends(t: &mut [u32; 20737], f: &[u8], a: usize, x: usize)
     requires { (a + x ≤ length f.now) × (x ≤ 5308416) × (length t.old ≡ 20737) }
     ensures { Ends f.now a x 0 t.new }
 {
-    let mut b = x / 256 + 1;
     let mut y = x;
     let mut e = x;
-    while 0 < b {
-        b -= 1;
+    for b in (0..x / 256 + 1).rev() {
         e = end_from(f, a, b * 256, y, e);
         y = b * 256;
         t[b] = e as u32;

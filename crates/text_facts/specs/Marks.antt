@@ -1,21 +1,18 @@
--- The struct of a date mark.
-use Rattle.std.specs.Prelude.{ℕ, false}
+-- The date mark of an answer, as the code has it.
+use Rattle.std.specs.Prelude.{Bool, Result, Ok, Err}
 use Rattle.questions.specs.Ask.{Answer, refused, count, mark, typed, part, column, labels, cell, plain, long}
-use Rattle.text_facts.specs.declared.Mark.{Mark}
+use Rattle.refusal.specs.declared.Refusal.{Refusal}
+use Rattle.refusal.specs.declared.Refusal.TheVariants.{NotReadable}
+use Rattle.refusal.specs.Refusals.{refusal_by}
 
--- a refusal: its number alone
-abbrev pub no_mark : ℕ → Mark
-no_mark c = record { code = c; yes = false }
-
--- the mark of an answer
-abbrev pub mark_by : Answer → Mark
-mark_by (refused c) = no_mark c
-mark_by (count n) = no_mark 17
-mark_by (mark b) = record { code = 0; yes = b }
-mark_by (typed t) = no_mark 17
-mark_by (part p n) = no_mark 17
-mark_by (column t p n) = no_mark 17
-mark_by (labels s) = no_mark 17
-mark_by (cell s) = no_mark 17
-mark_by (plain t) = no_mark 17
-mark_by (long k p n) = no_mark 17
+abbrev pub mark_by : Answer → Result Bool Refusal
+mark_by (refused c) = Err (refusal_by c)
+mark_by (count n) = Err NotReadable
+mark_by (mark b) = Ok b
+mark_by (typed t) = Err NotReadable
+mark_by (part p n) = Err NotReadable
+mark_by (column t p n) = Err NotReadable
+mark_by (labels s) = Err NotReadable
+mark_by (cell s) = Err NotReadable
+mark_by (plain t) = Err NotReadable
+mark_by (long k p n) = Err NotReadable

@@ -1,23 +1,21 @@
--- The struct of a type.
-use Rattle.std.specs.Prelude.{ℕ}
+-- The type of an answer, as the code has it.
+use Rattle.std.specs.Prelude.{Result, Ok, Err}
+use Rattle.codes.specs.declared.Field.{Field}
 use Rattle.codes.specs.Fields.{field_by}
-use Rattle.codes.specs.declared.Kind.TheVariants.{Unknown}
+use Rattle.refusal.specs.declared.Refusal.{Refusal}
+use Rattle.refusal.specs.declared.Refusal.TheVariants.{NotReadable}
+use Rattle.refusal.specs.Refusals.{refusal_by}
 use Rattle.questions.specs.Ask.{Answer, refused, count, mark, typed, part, column, labels, cell, plain, long}
-use Rattle.variable_facts.specs.declared.Typed.{Typed}
 
--- a refusal: its number alone
-abbrev pub no_type : ℕ → Typed
-no_type c = record { code = c; kind = Unknown; width = 0 }
-
--- the type of an answer: kind and width of its field
-abbrev pub typed_by : Answer → Typed
-typed_by (refused c) = no_type c
-typed_by (count n) = no_type 17
-typed_by (mark b) = no_type 17
-typed_by (typed t) = record { code = 0; kind = (field_by t).kind; width = (field_by t).width }
-typed_by (part p n) = no_type 17
-typed_by (column t p n) = no_type 17
-typed_by (labels s) = no_type 17
-typed_by (cell s) = no_type 17
-typed_by (plain t) = no_type 17
-typed_by (long k p n) = no_type 17
+-- kind and width of its field
+abbrev pub typed_by : Answer → Result Field Refusal
+typed_by (refused c) = Err (refusal_by c)
+typed_by (count n) = Err NotReadable
+typed_by (mark b) = Err NotReadable
+typed_by (typed t) = Ok (field_by t)
+typed_by (part p n) = Err NotReadable
+typed_by (column t p n) = Err NotReadable
+typed_by (labels s) = Err NotReadable
+typed_by (cell s) = Err NotReadable
+typed_by (plain t) = Err NotReadable
+typed_by (long k p n) = Err NotReadable

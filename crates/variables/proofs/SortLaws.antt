@@ -1,6 +1,6 @@
 -- The sort list, step by step.
 use mathlib.Core.Path.{◌≡◌, refl, sym, ◌∙◌}
-use Prim.Native.Nat.{ℕ, zero, suc, ◌+◌, ◌-◌, ◌≤◌, ◌<◌}
+use Prim.Native.Nat.{ℕ, suc, ◌+◌, ◌-◌, ◌≤◌, ◌<◌}
 use native.Mathlib.Omega.{arith}
 use native.Mathlib.Numerals.{add-one}
 use mathlib.Core.List.{List, [], ◌∷◌}
@@ -8,57 +8,33 @@ use mathlib.Core.Bool.{Bool, true, false, ◌||◌}
 use lib.ListN.{length, get_or, set, replicate, get_or-replicate}
 use lib.Seq.{get_or-set_same, get_or-set_other}
 use lib.Dec.{eqb, ltb, leb-suc-suc}
-use borrow.Author.Tests.{eqb-true, eqb-false, ne_eqb, le-leb, lt-leb, lt-ltb}
+use borrow.Author.Tests.{eqb-true, eqb-false, ne_eqb, le-leb, lt-leb}
 use Rattle.format.specs.Number.{Order, num}
-use Rattle.format.specs.Grammar.{Sect, also, unless, ended, ended_at, member, ruled}
+use Rattle.format.specs.Grammar.{also, unless, ended, ended_at, member, ruled}
 use Rattle.format.specs.Variables.{fresh}
 
 -- the verdict on the numbers l before the first zero in n places, after the numbers e
 abbrev pub sort_of : ℕ → ℕ → List ℕ → List ℕ → ℕ
 sort_of k n e l = also (unless (ltb (length l) n) 8) (unless (fresh k e l) 8)
 
--- the mark of a number, by whether it was seen
-abbrev pub mark : Bool → ℕ
-mark true = 1
-mark false = 0
-
--- `seen` has the marks of the numbers e
-abbrev pub Marks : ℕ → List ℕ → List ℕ → Type 0
-Marks k seen e = (x : ℕ) → x ≤ k → get_or seen x 0 ≡ mark (member x e)
+-- `seen` tells which numbers are among e
+abbrev pub Marks : ℕ → List Bool → List ℕ → Type 0
+Marks k seen e = (x : ℕ) → x ≤ k → get_or seen x false ≡ member x e
 
 -- at first none is seen; one more is marked
-pub marks_start : (n k : ℕ) → k < n → Marks k (replicate n 0) []
-marks_start n k h x b = get_or-replicate n x 0 0 (omega arith)
+pub marks_start : (n k : ℕ) → k < n → Marks k (replicate n false) []
+marks_start n k h x b = get_or-replicate n x false false (omega arith)
 
-pub marks_more : (k : ℕ) (seen e : List ℕ) (x : ℕ) → x < length seen → Marks k seen e → Marks k (set seen x 1) (x ∷ e)
+pub marks_more : (k : ℕ) (seen : List Bool) (e : List ℕ) (x : ℕ) → x < length seen → Marks k seen e → Marks k (set seen x true) (x ∷ e)
 marks_more k seen e x h m y b = go (eqb y x) refl
   where
-    go : (t : Bool) → eqb y x ≡ t → get_or (set seen x 1) y 0 ≡ mark (eqb y x || member y e)
-    go true q = rw (q, eqb-true y x q) (get_or-set_same seen x 1 0 h)
-    go false q = rw q (get_or-set_other seen x y 1 0 (eqb-false y x q) ∙ m y b)
-
-mark_some : (t : Bool) → (mark t ≡ 0 → ⊥) → t ≡ true
-mark_some true h = refl
-mark_some false h = absurd (h refl)
-
-mark_none : (t : Bool) → mark t ≡ 0 → t ≡ false
-mark_none true h = absurd (let g : ◌≡◌ {A = ℕ} 1 0 = h in omega arith)
-mark_none false h = refl
-
-module _ (k : ℕ) (seen e : List ℕ) (x : ℕ) (m : Marks k seen e) (b : x ≤ k) where
-  -- a number is marked exactly if it is in e
-  pub marks_in : (get_or seen x 0 ≡ 0 → ⊥) → member x e ≡ true
-  marks_in h = mark_some (member x e) (λ z. h (m x b ∙ z))
-
-  pub marks_out : get_or seen x 0 ≡ 0 → member x e ≡ false
-  marks_out h = mark_none (member x e) (sym (m x b) ∙ h)
+    go : (t : Bool) → eqb y x ≡ t → get_or (set seen x true) y false ≡ (eqb y x || member y e)
+    go true q = rw (q, eqb-true y x q) (get_or-set_same seen x true false h)
+    go false q = rw q (get_or-set_other seen x y true false (eqb-false y x q) ∙ m y b)
 
 also_eight : (a : Bool) → also (unless a 8) 8 ≡ 8
 also_eight true = refl
 also_eight false = refl
-
-of_nil : (k n : ℕ) (e : List ℕ) → 0 ≡ sort_of k (suc n) e []
-of_nil k n e = rw (lt-ltb 0 (suc n) (omega arith))
 
 module _ (k n x : ℕ) (e l : List ℕ) where
   of_large : k < x → 8 ≡ sort_of k n e (x ∷ l)
@@ -79,10 +55,7 @@ module _ (o : Order) (f : List ℕ) where
     left : k + 1 - i ≡ suc (k + 1 - (i + 1))
     left = omega arith
 
-    -- a zero ends the list; a number too large, or seen, is refused; after another the rest decides
-    pub sort_stop : num o 2 f q ≡ 0 → 0 ≡ sort_rest k (k + 1 - i) e q
-    sort_stop z = of_nil k (k + 1 - (i + 1)) e ∙ rw (left, z)
-
+    -- a number too large, or seen, is refused; after another the rest decides
     at_more : (num o 2 f q ≡ 0 → ⊥) → sort_of k (suc (k + 1 - (i + 1))) e (num o 2 f q ∷ ended_at o 2 (k + 1 - (i + 1)) f (q + 2)) ≡ sort_rest k (k + 1 - i) e q
     at_more z = rw (left, ne_eqb (num o 2 f q) 0 z)
 
@@ -95,10 +68,6 @@ module _ (o : Order) (f : List ℕ) where
     pub sort_turn : (num o 2 f q ≡ 0 → ⊥) → num o 2 f q ≤ k → member (num o 2 f q) e ≡ false
         → sort_rest k (k + 1 - (i + 1)) (num o 2 f q ∷ e) (q + 2) ≡ sort_rest k (k + 1 - i) e q
     sort_turn z h m = of_turn k _ (num o 2 f q) e (ended_at o 2 (k + 1 - (i + 1)) f (q + 2)) h m ∙ at_more z
-
-  -- no zero ends the list
-  pub sort_none : (k q n : ℕ) (e : List ℕ) → n ≡ 0 → 8 ≡ sort_rest k n e q
-  sort_none k q n e z = rw z
 
   -- the whole list
   pub sort_in : (k p : ℕ) → sort_rest k (k + 1) [] p ≡ (ruled (ended o 2 (suc k) 8) (fresh k []) 8).judge f p

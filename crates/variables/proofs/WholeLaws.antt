@@ -6,11 +6,12 @@ use Rattle.format.specs.Number.{Order}
 use Rattle.format.specs.Grammar.{within, ruled, ended, times, between}
 use Rattle.format.specs.Edition.{code_width, opening, closing, n_variable_types, n_sortlist}
 use Rattle.format.specs.Variables.{type_code, types, fresh, sort_list}
-use Rattle.section.specs.declared.Step.{Step}
+use Rattle.std.specs.Prelude.{Result}
+use Rattle.refusal.specs.declared.Refusal.{Refusal}
 use Rattle.section.specs.Judged.{Judged}
 use Rattle.section.proofs.PartLaws.{part_by}
 
-module _ (t : Bool) (o : Order) (k : ℕ) (f : List ℕ) (p : ℕ) (r : Step) where
+module _ (t : Bool) (o : Order) (k : ℕ) (f : List ℕ) (p : ℕ) (r : Result ℕ Refusal) where
   pub types_judged : Judged (between (cond t (opening true n_variable_types) []) (cond t (closing true n_variable_types) []) (within (k * code_width t) (times (type_code t o) k))) f p r
       → Judged (types t o k) f p r
   unfolding types

@@ -5,99 +5,76 @@ ghost use Rattle.format.specs.Number.{order_by};
 ghost use Rattle.format.specs.Grammar.{ruled, ended, judge_times};
 ghost use Rattle.format.specs.Edition.{code_width};
 ghost use Rattle.format.specs.Variables.{type_by, has_type, type_code, types, fresh, sort_list};
+ghost use Rattle.refusal.specs.Refusals.{code_of};
 ghost use Rattle.section.specs.Judged.{Judged};
 
 use codes::Kind;
-use section::Step;
+use refusal::Refusal;
 
 // Whether the edition knows the code.
 fn known_code(tagged: bool, code: u16) -> bool
     ensures { result ≡ has_type tagged (type_by tagged code) }
 {
-    let x = codes::field_of(tagged, code);
-    let kind = x.kind;
-    match kind {
-        Kind::Text => true,
-        Kind::StrL => true,
-        Kind::Byte => true,
-        Kind::Int => true,
-        Kind::Long => true,
-        Kind::Float => true,
-        Kind::Double => true,
-        Kind::Unknown => false,
-    }
+    let kind = codes::field_of(tagged, code).kind;
+    !matches!(kind, Kind::Unknown)
 }
 
 // The first refusal among `k` type codes at `p`.
-fn type_codes(f: &[u8], p: usize, k: usize, tagged: bool, msf: bool) -> u8
+fn type_codes(f: &[u8], p: usize, k: usize, tagged: bool, msf: bool) -> Result<(), Refusal>
     requires { p + k * code_width tagged ≤ length f.now }
-    ensures { result ≡ judge_times (type_code tagged (order_by msf)) k f.now p }
+    ensures { code_of result ≡ judge_times (type_code tagged (order_by msf)) k f.now p }
 {
     let w = codes::code_width(tagged);
     let mut q = p;
-    let mut i: usize = 0;
-    while i < k {
+    for _ in 0..k {
         let c = number::number(f, q, w, msf) as u16;
-        if known_code(tagged, c) {
-            q += w;
-            i += 1;
-        } else {
-            return 6;
+        if !known_code(tagged, c) {
+            return Err(Refusal::UnknownType);
         }
+        q += w;
     }
-    0
+    Ok(())
 }
 
 // The types of `k` variables.
-pub fn type_list(f: &[u8], p: usize, k: usize, tagged: bool, msf: bool) -> Step
+pub fn type_list(f: &[u8], p: usize, k: usize, tagged: bool, msf: bool) -> Result<usize, Refusal>
     requires { (p ≤ length f.now) × (k ≤ 32767) }
     ensures { Judged (types tagged (order_by msf) k) f.now p result }
 {
     let n = k * codes::code_width(tagged);
-    let a = section::opened(f, p, b"<variable_types>", tagged, n);
-    if a.code != 0 {
-        return a;
-    }
-    let b = type_codes(f, a.at, k, tagged, msf);
-    section::closed(f, a.at + n, b, b"</variable_types>", tagged)
+    let at = section::opened(f, p, b"<variable_types>", tagged, n)?;
+    type_codes(f, at, k, tagged, msf)?;
+    section::tag_if(f, at + n, b"</variable_types>", Refusal::WrongTag, tagged)
 }
 
 // The refusal of the sort list of `k` variables at `p`: one pass, with a mark for each variable that was seen.
-fn sort_numbers(f: &[u8], p: usize, k: usize, msf: bool) -> u8
+fn sort_numbers(f: &[u8], p: usize, k: usize, msf: bool) -> Result<(), Refusal>
     requires { (p + (k + 1) * 2 ≤ length f.now) × (k ≤ 32767) }
-    ensures { result ≡ (ruled (ended (order_by msf) 2 (suc k) 8) (fresh k []) 8).judge f.now p }
+    ensures { code_of result ≡ (ruled (ended (order_by msf) 2 (suc k) 8) (fresh k []) 8).judge f.now p }
 {
-    let mut seen = [0u8; 32768];
+    let mut seen = [false; 32768];
     let mut q = p;
-    let mut i: usize = 0;
-    while i <= k {
+    for _ in 0..k + 1 {
         let x = number::number(f, q, 2, msf) as usize;
         if x == 0 {
-            return 0;
+            return Ok(());
         }
-        if k < x {
-            return 8;
+        if k < x || seen[x] {
+            return Err(Refusal::WrongSortList);
         }
-        if seen[x] != 0 {
-            return 8;
-        }
-        seen[x] = 1;
+        seen[x] = true;
         q += 2;
-        i += 1;
     }
-    8
+    Err(Refusal::WrongSortList)
 }
 
 // The sort list of `k` variables.
-pub fn sort_list(f: &[u8], p: usize, k: usize, tagged: bool, msf: bool) -> Step
+pub fn sort_list(f: &[u8], p: usize, k: usize, tagged: bool, msf: bool) -> Result<usize, Refusal>
     requires { (p ≤ length f.now) × (k ≤ 32767) }
     ensures { Judged (sort_list tagged (order_by msf) k) f.now p result }
 {
     let n = (k + 1) * 2;
-    let a = section::opened(f, p, b"<sortlist>", tagged, n);
-    if a.code != 0 {
-        return a;
-    }
-    let b = sort_numbers(f, a.at, k, msf);
-    section::closed(f, a.at + n, b, b"</sortlist>", tagged)
+    let at = section::opened(f, p, b"<sortlist>", tagged, n)?;
+    sort_numbers(f, at, k, msf)?;
+    section::tag_if(f, at + n, b"</sortlist>", Refusal::WrongTag, tagged)
 }

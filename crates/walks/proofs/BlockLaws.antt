@@ -1,36 +1,30 @@
 -- The walk over label blocks, a step at a time.
-use mathlib.Core.Path.{◌≡◌, refl, sym, ap, ◌∙◌, subst}
+use mathlib.Core.Path.{◌≡◌, refl, sym, ap, ◌∙◌}
 use Prim.Native.Nat.{ℕ, zero, suc, ◌+◌, ◌-◌, ◌≤◌, ◌<◌}
 use native.Mathlib.Omega.{arith}
 use mathlib.Core.List.{List, [], ◌∷◌}
-use mathlib.Core.Bool.{Bool, true, false, cond, ◌&&◌, and-false, false≢true}
+use mathlib.Core.Bool.{Bool, true, false, cond, ◌&&◌, and-false}
 use lib.ListN.{length, get_or, take, drop, length-drop}
 use lib.Seq.{length-take-le}
 use native.Mathlib.Nat.{add-sub_cancel_left}
 use lib.Dec.{eqb}
-use lib.IntN.{ℤ}
 use borrow.Author.Tests.{le-leb, lt-leb, lt-ltb, le-ltb, eq-eqb, ne_eqb, eqb-true, eqb-false}
 use Rattle.format.specs.Number.{Order}
 use Rattle.format.specs.Grammar.{text_at, same_at}
 use Rattle.format.specs.Dta.{same_list}
 use Rattle.questions.specs.Readings.{Try, none, got, bind, number_in, text_in}
-use Rattle.questions.specs.Ask.{Labels, unlabelled, labelled, Answer, refused, labels, plain, or_refused, slice, sized_in, block_in, blocks_in}
-use Rattle.reading.specs.declared.Read.{Read}
-use Rattle.reading.specs.Reads.{read_by, length_in}
-use Rattle.reading.proofs.ReadLaws.{read_none, read_got}
-use Rattle.walks.specs.declared.Block.{Block}
-use Rattle.walks.specs.declared.LabelSet.{LabelSet}
-use Rattle.walks.specs.Answers.{no_set, table_by, set_by}
-use Rattle.walks.specs.Walks.{table_place, set_place, open_size, close_size, name_at, table_at, is_sized, no_block, BlockGot, IsBlock, same_name, block_labels}
+use Rattle.questions.specs.Ask.{Labels, unlabelled, labelled, Answer, refused, labels, or_refused, slice, sized_in, block_in, blocks_in}
+use Rattle.reading.specs.Reads.{length_in}
+use Rattle.refusal.specs.declared.Refusal.TheVariants.{NotReadable}
+use Rattle.std.specs.Prelude.{Some, None, Ok, Err}
+use Rattle.walks.specs.Answers.{set_by}
+use Rattle.walks.specs.Walks.{open_size, close_size, name_at, table_at, is_sized, BlockGot, same_name, block_labels}
 use Rattle.walks.proofs.TableLaws.{sized_got, sized_none}
 use Rattle.walks.proofs.TextLaws.{text_none, text_got}
 
 -- ---- one block
 
 module _ (t : Bool) (w : ℕ) (o : Order) (f : List ℕ) (z p : ℕ) where
-  pub no_block_lem : (r : Block) → r ≡ no_block → block_in t w o f z p ≡ none → IsBlock t w o f z p r
-  no_block_lem r e h = subst (λ (b : Block). IsBlock t w o f z p b) (sym e) (record { gone = λ q. h; whole = λ q. absurd (false≢true q) })
-
   pub block_short : z < table_at t w p → block_in t w o f z p ≡ none
   block_short h = rw (lt-leb (table_at t w p) z h)
 
@@ -59,17 +53,13 @@ module _ (t : Bool) (w : ℕ) (o : Order) (f : List ℕ) (z p : ℕ) where
           named : (x : Try (List ℕ)) → text_in w f (name_at t p) ≡ x → block_in t w o f z p ≡ bind x λ s. got (n, s)
           named x e = after x (got tt) e (sized_got o f n (table_at t w p) d)
 
-          block_got : (m : ℕ) → length_in w f (name_at t p) ≡ got m → BlockGot t w o f z p n m
+          pub block_got : (m : ℕ) → length_in w f (name_at t p) ≡ got m → BlockGot t w o f z p n m
           block_got m e =
               let g = text_got w f (name_at t p) m e in
               record { is = named (got (text_at w f (name_at t p))) g.is; name = g.long; fits = b; inside = g.inside }
 
-          pub is_block : (r : Read) → r ≡ read_by (length_in w f (name_at t p)) → IsBlock t w o f z p (record { there = r.there; table = n; name = r.value })
-          is_block r e =
-              record {
-                gone = λ q. named none (text_none w f (name_at t p) (read_none r (length_in w f (name_at t p)) e q));
-                whole = λ q. block_got r.value (read_got r (length_in w f (name_at t p)) e q);
-              }
+          pub block_nameless : length_in w f (name_at t p) ≡ none → block_in t w o f z p ≡ none
+          block_nameless e = named none (text_none w f (name_at t p) e)
 
 -- ---- names
 
@@ -134,16 +124,16 @@ module _ (t : Bool) (w : ℕ) (o : Order) (f s : List ℕ) (z start : ℕ) where
   starts = record { turns = length f; enough = omega arith; rest = refl }
 
   module _ (p : ℕ) (c : Come t w o f s z start p) where
-    pub come_plain : z ≤ p → (r : LabelSet) → r ≡ no_set 0 → r ≡ set_by (block_labels t w o f s z start)
-    come_plain h r e =
+    pub come_plain : z ≤ p → Ok None ≡ set_by (block_labels t w o f s z start)
+    come_plain h =
         let s : block_labels t w o f s z start ≡ labels unlabelled = c.rest ∙ (rw (le-ltb p z h)) in
-        e ∙ sym (ap set_by s)
+        sym (ap set_by s)
 
     module _ (h : p < z) where
-      pub come_gone : block_in t w o f z p ≡ none → (r : LabelSet) → r ≡ no_set 17 → r ≡ set_by (block_labels t w o f s z start)
-      come_gone b r e =
+      pub come_gone : block_in t w o f z p ≡ none → Err NotReadable ≡ set_by (block_labels t w o f s z start)
+      come_gone b =
           let s : block_labels t w o f s z start ≡ refused 17 = c.rest ∙ (rw (lt-ltb p z h, b)) in
-          e ∙ sym (ap set_by s)
+          sym (ap set_by s)
 
       module _ (n k : ℕ) (g : BlockGot t w o f z p n k) where
         step : (k : ℕ) (b : Bool) → b ≡ same_list (text_at w f (name_at t p)) s → blocks_in t w o f s z (suc k) p
@@ -151,8 +141,8 @@ module _ (t : Bool) (w : ℕ) (o : Order) (f s : List ℕ) (z start : ℕ) where
         step k b e = rw (lt-ltb p z h, g.is, sym e)
 
         pub come_here : true ≡ same_list (text_at w f (name_at t p)) s → (a : ℕ) → a ≡ table_at t w p
-            → record { code = 0; found = true; at = a; len = n } ≡ set_by (block_labels t w o f s z start)
-        come_here e a A = ap (λ (x : ℕ). table_by (labelled x n)) A ∙ sym (ap set_by (c.rest ∙ ap as_answer (step c.turns true e)))
+            → Ok (Some (record { at = a; len = n })) ≡ set_by (block_labels t w o f s z start)
+        come_here e a A = ap (λ (x : ℕ). set_by (labels (labelled x n))) A ∙ sym (ap set_by (c.rest ∙ ap as_answer (step c.turns true e)))
 
         pub come_on : false ≡ same_list (text_at w f (name_at t p)) s → Come t w o f s z start (table_at t w p + n + close_size t)
         come_on e = go c.turns c.enough c.rest
@@ -161,16 +151,3 @@ module _ (t : Bool) (w : ℕ) (o : Order) (f s : List ℕ) (z start : ℕ) where
                 → Come t w o f s z start (table_at t w p + n + close_size t)
             go zero b r = absurd (omega (arith, g.inside))
             go (suc k) b r = record { turns = k; enough = omega (arith, g.inside); rest = r ∙ ap as_answer (step (suc k) false e) }
-
--- ---- a set that was found
-
-module _ (o : Order) (f : List ℕ) (s : LabelSet) (q : ℤ) where
-  pub set_refused : (s.code ≡ 0 → ⊥) → set_place o f s q ≡ refused s.code
-  set_refused z = rw (ne_eqb s.code 0 z)
-
-  module _ (c : s.code ≡ 0) where
-    pub set_plain : s.found ≡ false → set_place o f s q ≡ plain []
-    set_plain h = rw (eq-eqb s.code 0 c, h)
-
-    pub set_table : s.found ≡ true → set_place o f s q ≡ table_place o f s.at q
-    set_table h = rw (eq-eqb s.code 0 c, h)

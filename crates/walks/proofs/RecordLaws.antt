@@ -3,48 +3,55 @@ use mathlib.Core.Path.{◌≡◌, refl, sym, ap, ◌∙◌}
 use Prim.Native.Nat.{ℕ, zero, suc, ◌+◌, ◌-◌, ◌≤◌, ◌<◌}
 use native.Mathlib.Omega.{arith}
 use mathlib.Core.List.{List}
-use mathlib.Core.Bool.{Bool, true, false, cond, ◌&&◌, and-false}
+use mathlib.Core.Bool.{Bool, true, false, cond, and-false}
 use lib.ListN.{length}
 use lib.Dec.{eqb, leb}
 use borrow.Author.Tests.{le-leb, lt-leb, leb-true, leb-false, eq-eqb, ne_eqb}
 use Rattle.format.specs.Number.{Order, num}
-use Rattle.questions.specs.Readings.{Try, none, got, bind, test, room, number_in}
+use Rattle.questions.specs.Readings.{Try, none, got, bind, test, room}
 use Rattle.questions.specs.Ask.{Answer, long, or_refused, record_head, records_in}
-use Rattle.walks.specs.declared.Long.{Long}
-use Rattle.walks.specs.Answers.{no_long, long_by}
-use Rattle.walks.specs.Walks.{variable_at, row_at, kind_at, length_at, record_end, record_size, IsSize, is_of, long_at, records_from}
+use Rattle.walks.specs.Answers.{long_by}
+use Rattle.refusal.specs.declared.Refusal.TheVariants.{NotReadable}
+use Rattle.std.specs.Prelude.{Some, None, Ok, Err}
+use Rattle.std.proofs.lemmas.Option.{none-some, same_Some}
+use mathlib.Core.Logic.{◌⊎◌, inl, inr}
+use Rattle.walks.specs.Walks.{kind_at, length_at, record_end, record_size, IsSize, is_of, long_at, records_from}
 use Rattle.reading.proofs.ReadLaws.{room_got, room_none, number_got, number_none}
 
 module _ (w : ℕ) (o : Order) (f : List ℕ) (z p : ℕ) where
   -- the size, by the tests
-  pub size_out : length f < record_end w o f p → 0 ≡ record_size w o f z p
+  pub size_out : length f < record_end w o f p → None ≡ record_size w o f z p
   unfolding record_size
   size_out h = rw (lt-leb (record_end w o f p) (length f) h, and-false)
 
-  pub size_past : z < record_end w o f p → 0 ≡ record_size w o f z p
+  pub size_past : z < record_end w o f p → None ≡ record_size w o f z p
   unfolding record_size
   size_past h = rw (lt-leb (record_end w o f p) z h)
 
-  pub size_in : record_end w o f p ≤ z → record_end w o f p ≤ length f → record_head w + length_at w o f p ≡ record_size w o f z p
+  pub size_in : record_end w o f p ≤ z → record_end w o f p ≤ length f → Some (record_head w + length_at w o f p) ≡ record_size w o f z p
   unfolding record_size
   size_in a b = rw (le-leb (record_end w o f p) z a, le-leb (record_end w o f p) (length f) b)
 
   -- and back
-  pub data Sized (r : ℕ) : Type 0 where
-    whole : record_end w o f p ≤ z → record_end w o f p ≤ length f → r ≡ record_head w + length_at w o f p → Sized r
-    past : z < record_end w o f p → r ≡ 0 → Sized r
-    out : length f < record_end w o f p → r ≡ 0 → Sized r
-
-  pub sized : (r : ℕ) → r ≡ record_size w o f z p → Sized r
-  sized r e = go (leb (record_end w o f p) z) refl (leb (record_end w o f p) (length f)) refl
+  sized_some : (n : ℕ) → Some n ≡ record_size w o f z p → (record_end w o f p ≤ z) × (record_end w o f p ≤ length f) × (n ≡ record_head w + length_at w o f p)
+  sized_some n e = go (leb (record_end w o f p) z) refl (leb (record_end w o f p) (length f)) refl
     where
-      go : (a : Bool) → leb (record_end w o f p) z ≡ a → (b : Bool) → leb (record_end w o f p) (length f) ≡ b → Sized r
+      go : (a : Bool) → leb (record_end w o f p) z ≡ a → (b : Bool) → leb (record_end w o f p) (length f) ≡ b
+          → (record_end w o f p ≤ z) × (record_end w o f p ≤ length f) × (n ≡ record_head w + length_at w o f p)
       go true a true b =
           let i = leb-true (record_end w o f p) z a in
           let j = leb-true (record_end w o f p) (length f) b in
-          whole i j (e ∙ sym (size_in i j))
-      go false a b c = let i = leb-false (record_end w o f p) z a in past i (e ∙ sym (size_past i))
-      go true a false b = let i = leb-false (record_end w o f p) (length f) b in out i (e ∙ sym (size_out i))
+          (i, j, same_Some n _ (e ∙ sym (size_in i j)))
+      go false a b c = absurd (none-some n (size_past (leb-false (record_end w o f p) z a) ∙ sym e))
+      go true a false b = absurd (none-some n (size_out (leb-false (record_end w o f p) (length f) b) ∙ sym e))
+
+  sized_none : None ≡ record_size w o f z p → (z < record_end w o f p) ⊎ (length f < record_end w o f p)
+  sized_none e = go (leb (record_end w o f p) z) refl (leb (record_end w o f p) (length f)) refl
+    where
+      go : (a : Bool) → leb (record_end w o f p) z ≡ a → (b : Bool) → leb (record_end w o f p) (length f) ≡ b → (z < record_end w o f p) ⊎ (length f < record_end w o f p)
+      go true a true b = absurd (none-some _ (e ∙ sym (size_in (leb-true (record_end w o f p) z a) (leb-true (record_end w o f p) (length f) b))))
+      go false a b c = inl (leb-false (record_end w o f p) z a)
+      go true a false b = inr (leb-false (record_end w o f p) (length f) b)
 
 module _ (w : ℕ) (o : Order) (f : List ℕ) (v x z : ℕ) where
   abbrev walk_in : ℕ → ℕ → Try Answer
@@ -129,63 +136,47 @@ module _ (w : ℕ) (o : Order) (f : List ℕ) (v x z p : ℕ) where
   unfolding records_from
   from_out h = walk_out w o f v x z (length f) p (omega arith)
 
--- a loop that looks for the record from `start` on has come to p, where the record has n bytes
-pub record Come (w : ℕ) (o : Order) (f : List ℕ) (v x z start p n : ℕ) : Type 0 where
-  pub size : IsSize w o f z p n
+-- a loop that looks for the record from `start` on has come to p
+pub record Come (w : ℕ) (o : Order) (f : List ℕ) (v x z start p : ℕ) : Type 0 where
+  pub inside : p ≤ length f
   pub turns : ℕ
   pub enough : length f < p + suc turns
   pub rest : records_from w o f v x z start ≡ records_in w o f v x z (suc turns) p
 
 module _ (w : ℕ) (o : Order) (f : List ℕ) (v x z start : ℕ) where
-  pub starts : (n : ℕ) → IsSize w o f z start n → Come w o f v x z start start n
+  pub starts : start ≤ length f → Come w o f v x z start start
   unfolding records_from
-  starts n s = record { size = s; turns = length f; enough = omega arith; rest = refl }
+  starts h = record { inside = h; turns = length f; enough = omega arith; rest = refl }
 
-  module _ (p n : ℕ) (c : Come w o f v x z start p n) where
-    abbrev sizes : Sized w o f z p n
-    sizes = sized w o f z p n c.size.is
-
-    pub come_head : (n ≡ 0 → ⊥) → record_head w ≤ n
-    come_head h = go sizes
+  module _ (p : ℕ) (c : Come w o f v x z start p) where
+    pub come_none : IsSize w o f z p None → Err NotReadable ≡ long_by (or_refused (records_from w o f v x z start))
+    come_none s = ap long_by (sym (ap or_refused (c.rest ∙ go (sized_none w o f z p s.is))))
       where
-        go : Sized w o f z p n → record_head w ≤ n
-        go (whole a b e) = omega arith
-        go (past a e) = absurd (h e)
-        go (out a e) = absurd (h e)
+        go : (z < record_end w o f p) ⊎ (length f < record_end w o f p) → records_in w o f v x z (suc c.turns) p ≡ none
+        go (inl a) = walk_past w o f v x z c.turns p a
+        go (inr a) = walk_out w o f v x z c.turns p a
 
-    pub come_none : n ≡ 0 → no_long 17 ≡ long_by (or_refused (records_from w o f v x z start))
-    come_none h = ap long_by (sym (ap or_refused (c.rest ∙ go sizes)))
-      where
-        go : Sized w o f z p n → records_in w o f v x z (suc c.turns) p ≡ none
-        go (whole a b e) = absurd (omega arith)
-        go (past a e) = walk_past w o f v x z c.turns p a
-        go (out a e) = walk_out w o f v x z c.turns p a
+    module _ (n : ℕ) (s : IsSize w o f z p (Some n)) where
+      pub come_here : true ≡ is_of w o f v x p → Ok (long_at w o f p n) ≡ long_by (or_refused (records_from w o f v x z start))
+      come_here t =
+          let a = sized_some w o f z p n s.is in
+          let i : n - record_head w ≡ length_at w o f p = omega arith in
+          rw i (ap long_by (sym (ap or_refused (c.rest ∙ walk_here w o f v x z c.turns p a.0 a.1 t))))
 
-    pub come_here : (n ≡ 0 → ⊥) → true ≡ is_of w o f v x p → long_at w o f p n ≡ long_by (or_refused (records_from w o f v x z start))
-    come_here h t = go sizes
-      where
-        go : Sized w o f z p n → long_at w o f p n ≡ long_by (or_refused (records_from w o f v x z start))
-        go (whole a b e) =
-            let i : n - record_head w ≡ length_at w o f p = omega arith in
-            rw i (ap long_by (sym (ap or_refused (c.rest ∙ walk_here w o f v x z c.turns p a b t))))
-        go (past a e) = absurd (h e)
-        go (out a e) = absurd (h e)
-
-    pub come_on : (n ≡ 0 → ⊥) → false ≡ is_of w o f v x p → (m : ℕ) → IsSize w o f z (p + n) m → Come w o f v x z start (p + n) m
-    come_on h t m s = go sizes c.turns c.enough c.rest
-      where
-        go : Sized w o f z p n → (k : ℕ) → length f < p + suc k → records_from w o f v x z start ≡ records_in w o f v x z (suc k) p → Come w o f v x z start (p + n) m
-        go (whole a b e) zero g r = absurd (omega arith)
-        go (whole a b e) (suc k) g r =
-            let i : record_end w o f p ≡ p + n = omega arith in
-            record {
-              size = s;
-              turns = k;
-              enough = omega arith;
-              rest = r ∙ walk_on w o f v x z (suc k) p a b t ∙ ap (records_in w o f v x z (suc k)) i;
-            }
-        go (past a e) k g r = absurd (h e)
-        go (out a e) k g r = absurd (h e)
+      pub come_on : false ≡ is_of w o f v x p → Come w o f v x z start (p + n)
+      come_on t = go c.turns c.enough c.rest
+        where
+          go : (k : ℕ) → length f < p + suc k → records_from w o f v x z start ≡ records_in w o f v x z (suc k) p → Come w o f v x z start (p + n)
+          go zero g r = absurd (omega (arith, s.inside))
+          go (suc k) g r =
+              let a = sized_some w o f z p n s.is in
+              let i : record_end w o f p ≡ p + n = omega arith in
+              record {
+                inside = omega (arith, s.inside);
+                turns = k;
+                enough = omega (arith, s.inside);
+                rest = r ∙ walk_on w o f v x z (suc k) p a.0 a.1 t ∙ ap (records_in w o f v x z (suc k)) i;
+              }
 
 -- ---- what code reads of a record
 
@@ -210,7 +201,7 @@ module _ (w : ℕ) (o : Order) (f : List ℕ) (p : ℕ) where
   unfolding is_of
   of_row v x a e h b q = let r = q ∙ ap (num o w f) seven in rw (sym e, eq-eqb a v h, sym r)
 
-  pub long_is : (n k : ℕ) → k ≡ num o 1 f (p + (7 + w)) → record { code = 0; kind = k; at = p + (12 + w); len = n - (12 + w) } ≡ long_at w o f p n
+  pub long_is : (n k : ℕ) → k ≡ num o 1 f (p + (7 + w)) → record { kind = k; at = p + (12 + w); len = n - (12 + w) } ≡ long_at w o f p n
   long_is n k e =
       let a : p + (12 + w) ≡ p + record_head w = omega arith in
       let b : n - (12 + w) ≡ n - record_head w = omega arith in

@@ -18,14 +18,16 @@ use Rattle.format.proofs.SearchLaws.{middle}
 use Rattle.questions.specs.Readings.{Try, none, got, test, number_in}
 use Rattle.questions.specs.Ask.{Answer, refused, part, plain, sized_in}
 use Rattle.reading.proofs.ReadLaws.{number_got, place_got, place_none}
-use Rattle.walks.specs.declared.Words.{Words}
+use Rattle.answers.specs.declared.Part.{Part}
+use Rattle.std.specs.Prelude.{Option, Result}
+use Rattle.refusal.specs.declared.Refusal.{Refusal}
 use Rattle.walks.specs.Answers.{words_by}
 use Rattle.walks.specs.Walks.{entry_place, slot_place, table_place, is_got, is_sized}
 
 -- ---- answers
 
 -- words that an answer gives, and another that is the same
-pub words_as : (r : Words) (a b : Answer) → r ≡ words_by a → b ≡ a → r ≡ words_by b
+pub words_as : (r : Result (Option Part) Refusal) (a b : Answer) → r ≡ words_by a → b ≡ a → r ≡ words_by b
 words_as r a b e h = e ∙ ap words_by (sym h)
 
 -- ---- the words at a slot

@@ -1,15 +1,15 @@
 -- Texts at any place of a file, by the length that was read.
-use mathlib.Core.Path.{◌≡◌, refl, sym, ap, ◌∙◌}
-use Prim.Native.Nat.{ℕ, zero, suc, ◌+◌, ◌-◌, ◌≤◌, ◌<◌}
+use mathlib.Core.Path.{◌≡◌, refl, sym, ◌∙◌}
+use Prim.Native.Nat.{ℕ, zero, suc, ◌+◌, ◌≤◌}
 use native.Mathlib.Omega.{arith}
-use mathlib.Core.List.{List, [], ◌∷◌}
-use mathlib.Core.Bool.{Bool, true, false, cond, false≢true}
+use mathlib.Core.List.{List}
+use mathlib.Core.Bool.{Bool, true, false, false≢true}
 use lib.ListN.{length, get_or}
 use lib.Dec.{eqb, leb, ltb}
-use borrow.Author.Tests.{leb-true, ltb-true, ltb-false, eqb-true, eqb-false}
+use borrow.Author.Tests.{leb-true}
 use Rattle.format.specs.Number.{Order}
 use Rattle.format.specs.Grammar.{text_at}
-use Rattle.questions.specs.Readings.{Try, none, got, bind, room, number_in, text_needs, text_in}
+use Rattle.questions.specs.Readings.{none, got, number_in, text_needs, text_in}
 use Rattle.reading.specs.Reads.{length_in}
 
 pub text_short : (w : ℕ) (f : List ℕ) (p : ℕ) → length (text_at w f p) ≤ w

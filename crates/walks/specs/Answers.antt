@@ -1,72 +1,61 @@
 -- The answers about a cell, as code has them.
-use Rattle.std.specs.Prelude.{ℕ, true, false}
+use Rattle.std.specs.Prelude.{Option, None, Some, Result, Ok, Err}
 use Rattle.questions.specs.Ask.{Labels, unlabelled, labelled, Answer, refused, count, mark, typed, part, column, labels, cell, plain, long}
+use Rattle.refusal.specs.declared.Refusal.{Refusal}
+use Rattle.refusal.specs.declared.Refusal.TheVariants.{NotReadable}
+use Rattle.refusal.specs.Refusals.{refusal_by}
 use Rattle.walks.specs.declared.Long.{Long}
 use Rattle.walks.specs.declared.LabelSet.{LabelSet}
-use Rattle.walks.specs.declared.Words.{Words}
-
--- ---- a long string
-
--- a refusal: its number alone; with 0, no record is meant
-abbrev pub no_long : ℕ → Long
-no_long c = record { code = c; kind = 0; at = 0; len = 0 }
+use Rattle.answers.specs.declared.Part.{Part}
 
 -- the long string of an answer
-abbrev pub long_by : Answer → Long
-long_by (refused c) = no_long c
-long_by (count n) = no_long 17
-long_by (mark b) = no_long 17
-long_by (typed t) = no_long 17
-long_by (part p n) = no_long 17
-long_by (column t p n) = no_long 17
-long_by (labels s) = no_long 17
-long_by (cell s) = no_long 17
-long_by (plain t) = no_long 17
-long_by (long k p n) = record { code = 0; kind = k; at = p; len = n }
+abbrev pub long_by : Answer → Result Long Refusal
+long_by (refused c) = Err (refusal_by c)
+long_by (count n) = Err NotReadable
+long_by (mark b) = Err NotReadable
+long_by (typed t) = Err NotReadable
+long_by (part p n) = Err NotReadable
+long_by (column t p n) = Err NotReadable
+long_by (labels s) = Err NotReadable
+long_by (cell s) = Err NotReadable
+long_by (plain t) = Err NotReadable
+long_by (long k p n) = Ok (record { kind = k; at = p; len = n })
 
--- ---- label words
-
--- a refusal, or 0 and the plain text: place and length are 0
-abbrev pub no_words : ℕ → Words
-no_words c = record { code = c; found = false; at = 0; len = 0 }
-
--- the label words of an answer: a part of the file, the plain text, or the refusal
-abbrev pub words_by : Answer → Words
-words_by (refused c) = no_words c
-words_by (count n) = no_words 17
-words_by (mark b) = no_words 17
-words_by (typed t) = no_words 17
-words_by (part p n) = record { code = 0; found = true; at = p; len = n }
-words_by (column t p n) = no_words 17
-words_by (labels s) = no_words 17
-words_by (cell s) = no_words 17
-words_by (plain t) = no_words 0
-words_by (long k p n) = no_words 17
+-- the label words of an answer: a part of the file, none where the plain text is shown, or the refusal
+abbrev pub words_by : Answer → Result (Option Part) Refusal
+words_by (refused c) = Err (refusal_by c)
+words_by (count n) = Err NotReadable
+words_by (mark b) = Err NotReadable
+words_by (typed t) = Err NotReadable
+words_by (part p n) = Ok (Some (record { at = p; len = n }))
+words_by (column t p n) = Err NotReadable
+words_by (labels s) = Err NotReadable
+words_by (cell s) = Err NotReadable
+words_by (plain t) = Ok None
+words_by (long k p n) = Err NotReadable
 
 -- ---- label sets
 
--- a refusal, or 0 and a set without labels
-abbrev pub no_set : ℕ → LabelSet
-no_set c = record { code = c; found = false; at = 0; len = 0 }
-
--- the set with a label table, or without
-abbrev pub table_by : Labels → LabelSet
-table_by unlabelled = no_set 0
-table_by (labelled p n) = record { code = 0; found = true; at = p; len = n }
+-- the label table, where there is one
+abbrev pub table_by : Labels → Option LabelSet
+table_by unlabelled = None
+table_by (labelled p n) = Some (record { at = p; len = n })
 
 -- the label set of an answer
-abbrev pub set_by : Answer → LabelSet
-set_by (refused c) = no_set c
-set_by (count n) = no_set 17
-set_by (mark b) = no_set 17
-set_by (typed t) = no_set 17
-set_by (part p n) = no_set 17
-set_by (column t p n) = no_set 17
-set_by (labels s) = table_by s
-set_by (cell s) = no_set 17
-set_by (plain t) = no_set 17
-set_by (long k p n) = no_set 17
+abbrev pub set_by : Answer → Result (Option LabelSet) Refusal
+set_by (refused c) = Err (refusal_by c)
+set_by (count n) = Err NotReadable
+set_by (mark b) = Err NotReadable
+set_by (typed t) = Err NotReadable
+set_by (part p n) = Err NotReadable
+set_by (column t p n) = Err NotReadable
+set_by (labels s) = Ok (table_by s)
+set_by (cell s) = Err NotReadable
+set_by (plain t) = Err NotReadable
+set_by (long k p n) = Err NotReadable
 
 -- the set s with the length 0: where its table stands is all that words are found by
-abbrev pub lenless : LabelSet → LabelSet
-lenless s = record { code = s.code; found = s.found; at = s.at; len = 0 }
+abbrev pub lenless : Result (Option LabelSet) Refusal → Result (Option LabelSet) Refusal
+lenless (Ok (Some s)) = Ok (Some (record { at = s.at; len = 0 }))
+lenless (Ok None) = Ok None
+lenless (Err e) = Err e

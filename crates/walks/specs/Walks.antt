@@ -1,5 +1,6 @@
 -- What the walks over records and label blocks promise.
-use Rattle.std.specs.Prelude.{◌≡◌, ℕ, suc, ◌+◌, ◌-◌, ◌*◌, ◌≤◌, List, [], Bool, true, false, cond, ◌&&◌, length, eqb, leb, ltb, ℤ}
+use Rattle.std.specs.Prelude.{◌≡◌, ℕ, suc, ◌+◌, ◌-◌, ◌*◌, ◌≤◌, List, [], Bool, true, false, cond, ◌&&◌, length, eqb, leb, ltb, ℤ, Option, None, Some, IfSome, Result, Ok, Err}
+use Rattle.refusal.specs.declared.Refusal.{Refusal}
 use Rattle.format.specs.Number.{Order, num}
 use Rattle.format.specs.Grammar.{text_at, same_at}
 use Rattle.format.specs.Edition.{opening, closing, n_lbl}
@@ -10,7 +11,7 @@ use Rattle.walks.specs.declared.Long.{Long}
 use Rattle.walks.specs.declared.Block.{Block}
 use Rattle.reading.specs.Reads.{place_in}
 use Rattle.walks.specs.declared.LabelSet.{LabelSet}
-use Rattle.walks.specs.declared.Words.{Words}
+use Rattle.answers.specs.declared.Part.{Part}
 use Rattle.walks.specs.Answers.{words_by}
 
 -- ---- records
@@ -33,14 +34,14 @@ module _ (w : ℕ) (o : Order) (f : List ℕ) where
   abbrev pub record_end : ℕ → ℕ
   record_end p = p + record_head w + length_at p
 
-  -- the size of the record at p, which ends at or before z and the file's end; 0 where it does not
-  unfoldable pub record_size : ℕ → ℕ → ℕ
-  record_size z p = cond (leb (record_end p) z && leb (record_end p) (length f)) (record_head w + length_at p) 0
+  -- the size of the record at p, where it ends at or before z and the file's end
+  unfoldable pub record_size : ℕ → ℕ → Option ℕ
+  record_size z p = cond (leb (record_end p) z && leb (record_end p) (length f)) (Some (record_head w + length_at p)) None
 
   -- r is that size
-  pub record IsSize (z p r : ℕ) : Type 0 where
+  pub record IsSize (z p : ℕ) (r : Option ℕ) : Type 0 where
     pub is : r ≡ record_size z p
-    pub inside : p + r ≤ length f
+    pub inside : IfSome r (λ n. (record_head w ≤ n) × (p + n ≤ length f))
 
   -- the record at p is of the cell v, x
   unfoldable pub is_of : ℕ → ℕ → ℕ → Bool
@@ -48,7 +49,7 @@ module _ (w : ℕ) (o : Order) (f : List ℕ) where
 
   -- the answer for the record of n bytes at p
   abbrev pub long_at : ℕ → ℕ → Long
-  long_at p n = record { code = 0; kind = kind_at p; at = p + record_head w; len = n - record_head w }
+  long_at p n = record { kind = kind_at p; at = p + record_head w; len = n - record_head w }
 
   -- the first record from p on, in a part that ends at z, that is of the cell v, x
   unfoldable pub records_from : ℕ → ℕ → ℕ → ℕ → Try Answer
@@ -56,16 +57,17 @@ module _ (w : ℕ) (o : Order) (f : List ℕ) where
 
 -- ---- label words, where an empty plain text is lent
 
--- the answer for the value q in a label set, g being that in the table at a place: the set's refusal, or the plain text where it has no table
-abbrev pub in_set : (ℕ → ℤ → Answer) → LabelSet → ℤ → Answer
-in_set g s q = cond (eqb s.code 0) (cond s.found (g s.at q) (plain [])) (refused s.code)
+-- the answer for the value q in a label set, g being that in the table at a place: the plain text where the set has no table
+abbrev pub in_set : (ℕ → ℤ → Answer) → Option LabelSet → ℤ → Answer
+in_set g (Some s) q = g s.at q
+in_set g None q = plain []
 
 -- of the value q in the table at p
 unfoldable pub table_words : Order → List ℕ → ℕ → ℤ → Answer
 table_words o f p q = or_refused (table_in o f [] q p)
 
 -- of the value q in a label set
-abbrev pub set_says : Order → List ℕ → LabelSet → ℤ → Answer
+abbrev pub set_says : Order → List ℕ → Option LabelSet → ℤ → Answer
 set_says o f s q = in_set (table_words o f) s q
 
 -- ---- where they stand: the part of the text area from there on, whose end is not looked for yet
@@ -98,7 +100,7 @@ table_place o f p q =
     got (slot_place o f p n x q))
 
 -- of the value q in a label set
-abbrev pub set_place : Order → List ℕ → LabelSet → ℤ → Answer
+abbrev pub set_place : Order → List ℕ → Option LabelSet → ℤ → Answer
 set_place o f s q = in_set (table_place o f) s q
 
 -- the words at p, of which n bytes are left in the text area: up to the first zero, which must be there
@@ -106,8 +108,14 @@ abbrev pub ended_in : List ℕ → ℕ → ℕ → Try Answer
 ended_in f p n = bind (text_in n f p) λ t. bind (test (ltb (length t) n)) λ u. got (part p (length t))
 
 -- words up to their end, by where they stand
-unfoldable pub ended_by : List ℕ → Words → Words
-ended_by f w = cond w.found (words_by (or_refused (ended_in f w.at w.len))) w
+unfoldable pub ended_by : List ℕ → Option Part → Result (Option Part) Refusal
+ended_by f (Some w) = words_by (or_refused (ended_in f w.at w.len))
+ended_by f None = Ok None
+
+-- .. where they are not refused
+abbrev pub all_ended : List ℕ → Result (Option Part) Refusal → Result (Option Part) Refusal
+all_ended f (Ok w) = ended_by f w
+all_ended f (Err e) = Err e
 
 -- ---- label blocks
 
@@ -134,10 +142,6 @@ is_got (got u) = true
 unfoldable pub is_sized : Order → List ℕ → ℕ → ℕ → Bool
 is_sized o f w p = is_got (sized_in o f w p)
 
--- no block
-abbrev pub no_block : Block
-no_block = record { there = false; table = 0; name = 0 }
-
 module _ (t : Bool) (w : ℕ) (o : Order) (f : List ℕ) (z p : ℕ) where
   -- the block at p lies whole in its part, with a table and a name of these lengths; the table is as long as it says, and the name is in the file
   pub record BlockGot (n m : ℕ) : Type 0 where
@@ -147,9 +151,9 @@ module _ (t : Bool) (w : ℕ) (o : Order) (f : List ℕ) (z p : ℕ) where
     pub inside : name_at t p + m ≤ length f
 
   -- r is the block at p
-  pub record IsBlock (r : Block) : Type 0 where
-    pub gone : r.there ≡ false → block_in t w o f z p ≡ none
-    pub whole : r.there ≡ true → BlockGot r.table r.name
+  abbrev pub IsBlock : Option Block → Type 0
+  IsBlock None = block_in t w o f z p ≡ none
+  IsBlock (Some b) = BlockGot b.table b.name
 
 -- the n bytes at p are the text of m bytes at a
 unfoldable pub same_name : List ℕ → ℕ → ℕ → ℕ → ℕ → Bool

@@ -5,14 +5,16 @@ use native.Mathlib.Nat.{zero-mul, suc-mul, zero-add, add-zero, mul-le-mul_right}
 use native.Mathlib.Numerals.{add-one}
 use native.Mathlib.Omega.{arith}
 use mathlib.Core.List.{List, [], ◌∷◌, ◌++◌, append_assoc, append-nil}
-use mathlib.Core.Bool.{Bool, true, false, ◌&&◌}
+use mathlib.Core.Bool.{Bool, true, false}
 use lib.ListN.{length, get_or, take, drop, length-append}
 use lib.Dec.{leb}
 use borrow.Rule.Slice.PartMut.{put_mid}
-use borrow.Author.Tests.{lt-ltb, le-ltb, le-leb, lt-leb, leb-true, leb-false}
+use borrow.Author.Tests.{lt-ltb, le-ltb, leb-true, leb-false}
 use Rattle.format.specs.Dta.{Layout}
 use Rattle.text.proofs.Lay.{laid_part, laid_as}
-use Rattle.questions.specs.Ask.{Question, answer_of, among}
+use Rattle.questions.specs.Ask.{Question, ask_cell, answer_of, in_range}
+use Rattle.std.specs.Prelude.{min, Ok, Err}
+use Rattle.refusal.specs.declared.Refusal.TheVariants.{NotThere}
 use Rattle.coded.specs.Coded.{numbers_of, told, following, least}
 use Rattle.cell_runs.proofs.RunLaws.{Filled, filled_none, filled_long, filled_all, four_long, least_left, least_right, least_both, run_there, run_none}
 use Rattle.word_runs.specs.Words.{words_down}
@@ -145,29 +147,32 @@ module _ {f : List ℕ} {l : Layout} {v : List ℕ} {j h : ℕ} {d : List ℕ} {
 
 -- ---- the whole
 
+pub least_min : (a b : ℕ) → min a b ≡ least a b
+least_min a b = go (leb a b) refl
+  where
+    go : (t : Bool) → leb a b ≡ t → min a b ≡ least a b
+    go true e = let h = leb-true a b e in let m : min a b ≡ a = omega arith in m ∙ least_left a b h
+    go false e = let h = leb-false a b e in let m : min a b ≡ b = omega arith in m ∙ least_right a b h
+
 pub rows_few : (l : Layout) (j x h : ℕ) → h ≡ rows_from l j x → h ≤ following j l.rows
 rows_few l j x h e = omega (arith, e, (least_both x (following j l.rows)).1)
 
--- i is the first variable; a and b tell whether it and the observation are there
-module _ (f : List ℕ) (l : Layout) (v : List ℕ) (j x : ℕ) (d : List ℕ) (i : ℕ) (a b : Bool)
-    (I : i ≡ get_or v 0 0) (A : a ≡ among i l.variables) (B : b ≡ among j l.rows) where
-  abbrev h : ℕ
-  h = rows_from l j x
+-- i is the first variable; b tells whether its cell in observation j is there
+module _ (f : List ℕ) (l : Layout) (v : List ℕ) (j x : ℕ) (d : List ℕ) (i : ℕ) (I : i ≡ get_or v 0 0) (b : Bool) (B : b ≡ in_range l (ask_cell i j)) where
+  first_in : in_range l (ask_cell (get_or v 0 0) j) ≡ b
+  first_in = ap (λ (y : ℕ). in_range l (ask_cell y j)) (sym I) ∙ sym B
 
-  first_in : a ≡ among (get_or v 0 0) l.variables
-  first_in = A ∙ ap (λ (y : ℕ). among y l.variables) I
-
-  pub across_none : (a && b) ≡ false → TellsAcross f l v j x d d (record { code = 16; count = 0 })
+  pub across_none : b ≡ false → TellsAcross f l v j x d d (Err NotThere)
   across_none n =
       record {
-        answer = run_none l (get_or v 0 0) j (length v * h) (length d) a b first_in B n;
-        out = filled_all (filled_none f l (words_across v j h) d) 0 refl;
+        answer = run_none l (get_or v 0 0) j (length v * rows_from l j x) (length d) (first_in ∙ n);
+        out = filled_all (filled_none f l (words_across v j (rows_from l j x)) d) 0 refl;
       }
 
-  pub across_some : (a && b) ≡ true → (y : ℕ) → y ≡ rows_from l j x → (m : ℕ) → m ≡ least (length d / 4) (length v * y)
-      → (w : List ℕ) → w ≡ told f l (words_across v j y) m ++ drop (m * 4) d → TellsAcross f l v j x d w (record { code = 0; count = m })
+  pub across_some : b ≡ true → (y : ℕ) → y ≡ rows_from l j x → (m : ℕ) → m ≡ least (length d / 4) (length v * y)
+      → (w : List ℕ) → w ≡ told f l (words_across v j y) m ++ drop (m * 4) d → TellsAcross f l v j x d w (Ok m)
   across_some n y Y m M w W =
       record {
-        answer = run_there l (get_or v 0 0) j (length v * h) (length d) a b first_in B n m (M ∙ ap (λ (z : ℕ). least (length d / 4) (length v * z)) Y);
+        answer = run_there l (get_or v 0 0) j (length v * rows_from l j x) (length d) (first_in ∙ n) m (M ∙ ap (λ (z : ℕ). least (length d / 4) (length v * z)) Y);
         out = W ∙ ap (λ (z : ℕ). told f l (words_across v j z) m ++ drop (m * 4) d) Y;
       }

@@ -1,2 +1,1 @@
 pub mod AcrossLaws
-pub mod ListedLaws

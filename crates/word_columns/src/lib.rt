@@ -14,39 +14,39 @@ ghost use Rattle.set_tables.specs.Tables.{Found};
 ghost use Rattle.word_columns.specs.Across.{words_across, rows_from, TellsAcross};
 
 use checking::Layout;
-use coded::Run;
-use set_tables::Tables;
+use refusal::Refusal;
 use walks::LabelSet;
 
 // The first number; 0 where there is none.
 fn first_of(v: &[u64]) -> u64
     ensures { result ≡ get_or v.now 0 0 }
 {
-    if v.len() == 0 {
-        return 0;
-    }
-    v[0]
+    v.first().copied().unwrap_or(0)
 }
 
 // So many observations from `j` on, at most those that there are.
 fn rows_from(l: Layout, j: u64, rows: u64) -> u64
     ensures { result ≡ rows_from (layout_by l) j rows }
 {
-    let n = cell_runs::following(j, l.n);
-    if rows <= n { rows } else { n }
+    rows.min(cell_runs::following(j, l.n))
 }
 
-// The label set of the variable `i` at place `k` of the list.
-fn set_at(f: &[u8], l: Layout, v: &[u64], t: &[u64; 32768], r: Tables, k: usize, i: u64) -> LabelSet
-    requires { (Found f.now (layout_by l) v.now t.now r) × (k < length v.now) × (i ≡ get_or v.now k 0) }
-    ensures { lenless result ≡ lenless (set_by (answer_of f.now (layout_by l) (ask_table i))) }
+// The label set of the variable at place `k` of the list, by the numbers in `t`, where the tables were found at once; else looked for by itself.
+fn set_at(
+    f: &[u8],
+    l: Layout,
+    v: &[u64],
+    t: &[u64; 32768],
+    found: Option<Result<(), Refusal>>,
+    k: usize,
+) -> Result<Option<LabelSet>, Refusal>
+    requires { (Found f.now (layout_by l) v.now t.now found) × (k < length v.now) }
+    ensures { lenless result ≡ lenless (set_by (answer_of f.now (layout_by l) (ask_table (get_or v.now k 0)))) }
 {
-    if r.there {
-        if k < 32768 {
-            return set_tables::table_of(r.code, t[k]);
-        }
+    match found {
+        Some(rest) if k < 32768 => set_tables::table_of(rest, t[k]),
+        _ => label_words::set_of(f, l, v[k]),
     }
-    label_words::set_of(f, l, i)
 }
 
 // The label words of the listed variables in `h` observations from `j` on, four numbers each, one variable after another, as many as `out` has room for; how many
@@ -59,36 +59,38 @@ fn columns_in(f: &[u8], l: Layout, v: &[u64], j: u64, h: u64, out: &mut [u64]) -
     let mut a = [0u64; 32768];
     let first = column_list::list_offsets(&mut a, f, l);
     let mut b = [0u64; 32768];
-    let tables = set_tables::find_tables(&mut b, f, l, v);
+    let found = set_tables::find_tables(&mut b, f, l, v);
     let mut t = [0u32; 20737];
-    let mut x = word_runs::no_listing();
+    let mut x = None;
     let mut at: usize = 0;
-    let mut k: usize = 0;
-    while k < v.len() {
+    for k in 0..v.len() {
         if at == n {
             return at;
         }
-        let i = v[k];
-        let c = column_list::column_at(f, l, &a, first, i);
-        let s = set_at(f, l, v, &b, tables, k, i);
+        let c = column_list::column_at(f, l, &a, first, v[k]);
+        let s = set_at(f, l, v, &b, found, k);
         let m = cell_runs::least(n - at, h);
-        x = word_runs::words_in(f, l, i, j, m, c, s, &mut t, x, &mut out[at * 4..]);
+        x = word_runs::words_in(f, l, v[k], j, m, c, s, &mut t, x, &mut out[at * 4..]);
         at += m;
-        k += 1;
     }
     at
 }
 
 // The label words of the listed variables in so many observations from `j` on, at most those that there are, four numbers each, one variable after another, as many
 // as `out` has room for. 16 where the first variable or observation `j` is not there.
-pub fn words_across(f: &[u8], l: Layout, v: &[u64], j: u64, rows: u64, out: &mut [u64]) -> Run
+pub fn words_across(
+    f: &[u8],
+    l: Layout,
+    v: &[u64],
+    j: u64,
+    rows: u64,
+    out: &mut [u64],
+) -> Result<usize, Refusal>
     ensures { TellsAcross f.now (layout_by l) v.now j rows out.old out.new result }
 {
-    let there = reading::is_among(first_of(v), l.k) & reading::is_among(j, l.n);
-    if !there {
-        return Run { code: 16, count: 0 };
+    if !cells::is_cell(l, first_of(v), j) {
+        return Err(Refusal::NotThere);
     }
     let h = rows_from(l, j, rows);
-    let count = columns_in(f, l, v, j, h, &mut out[..]);
-    Run { code: 0, count }
+    Ok(columns_in(f, l, v, j, h, &mut out[..]))
 }

@@ -4,242 +4,218 @@
 
 #![tactic(auto)]
 
-ghost use Rattle.std.specs.Prelude.{◌≡◌, ◌++◌, ◌+◌, ◌*◌, ◌≤◌, length, drop};
+ghost use Rattle.std.specs.Prelude.{◌≡◌, [], ◌++◌, ◌+◌, ◌*◌, ◌≤◌, length, drop, Some, IfSome};
+ghost use Rattle.format.specs.Number.{order_by};
+ghost use Rattle.questions.specs.Ask.{answer_of, ask_words};
 ghost use Rattle.checking.specs.Checks.{layout_by};
+ghost use Rattle.cell.specs.Cells.{says, Lettered};
+ghost use Rattle.cell_runs.specs.Held.{held};
 ghost use Rattle.asking.specs.Asking.{answer_by, by_words};
+ghost use Rattle.walks.specs.Answers.{words_by};
 ghost use Rattle.walks.specs.Walks.{ended_by};
+ghost use Rattle.label_words.specs.Words.{said_in, cell_words};
 ghost use Rattle.text_ends.specs.Ends.{Ends};
-ghost use Rattle.word_runs.specs.Areas.{no_area, InFile, stands_in};
-ghost use Rattle.word_runs.specs.Words.{words_down, ColumnGiven, no_listing, ListingFits};
+ghost use Rattle.word_runs.specs.Areas.{InFile, StandsAt};
+ghost use Rattle.word_runs.specs.Words.{words_down, SetGiven, ColumnGiven, ListingFits, Cheap, Resumed};
 ghost use Rattle.coded.specs.Coded.{numbers_of, told, following, Tells};
 
+use answers::Part;
+use cell::Cell;
+use cell_runs::Held;
 use checking::Layout;
-use coded::Run;
 use columns::Column;
-use walks::{LabelSet, Words};
+use refusal::Refusal;
+use walks::LabelSet;
 
 // The text area of a label table, by place and length.
-#[derive(Clone, Copy)]
-struct Area {
-    at: usize,
-    len: usize,
-}
-
-// What is listed of a text area, by place and length: how many of its bytes have their ends listed, none or all, and how many text bytes were gone through.
-#[derive(Clone, Copy)]
-pub struct Listing {
+#[derive(Clone, Copy, PartialEq, Eq)]
+pub struct Area {
     pub at: usize,
     pub len: usize,
-    pub had: usize,
+}
+
+// What is listed of a text area: whether all of its texts have their ends listed, or none, and how many text bytes were gone through.
+#[derive(Clone, Copy)]
+pub struct Listing {
+    pub area: Area,
+    pub all: bool,
     pub spent: u64,
 }
 
-// Nothing is listed.
-pub fn no_listing() -> Listing
-    ensures { result ≡ no_listing }
+// The text area of a label set's table, where it lies in the file and has no more bytes than an accepted file's can have.
+fn text_area(f: &[u8], s: Option<LabelSet>, msf: bool) -> Option<Area>
+    ensures { IfSome result (InFile f.now) }
 {
-    Listing {
-        at: 0,
-        len: 0,
-        had: 0,
-        spent: 0,
+    let table = s?.at;
+    let n = reading::number_in(f, table, 4, msf)?;
+    let x = reading::number_in(f, table + 4, 4, msf)?;
+    let at = reading::place_in(f, table, 8, n, 8)?;
+    if 5308416 < x || f.len() as u64 - at < x {
+        return None;
     }
+    Some(Area {
+        at: at as usize,
+        len: x as usize,
+    })
 }
 
-fn no_area() -> Area
-    ensures { result ≡ no_area }
+// Where in the text area words stand, if as many text bytes are left to them as the area has from there on.
+fn place_in_area(area: Area, w: Part) -> Option<usize>
+    ensures { IfSome result (StandsAt area w) }
 {
-    Area { at: 0, len: 0 }
+    let y = w.at.checked_sub(area.at as u64)?;
+    let x = area.len as u64;
+    if x < y || w.len != x - y {
+        return None;
+    }
+    Some(y as usize)
 }
 
-// The text area of a label set's table, where it lies in the file and has no more bytes than an accepted file's can have; else an empty one.
-fn text_area(f: &[u8], s: LabelSet, msf: bool) -> Area
-    ensures { InFile f.now result }
+// Words up to their end: looked up, where they stand in the text area, of which `t` says where texts end.
+fn looked_up(f: &[u8], t: &[u32; 20737], area: Area, w: Part) -> Result<Option<Part>, Refusal>
+    requires { (InFile f.now area) × (Ends f.now area.at area.len 0 t.now) }
+    ensures { result ≡ ended_by f.now (Some w) }
 {
-    if !s.found {
-        return no_area();
+    let Some(y) = place_in_area(area, w) else {
+        return walks::ended(f, Some(w));
+    };
+    let len = text_ends::length_from(f, t, area.at, area.len, y) as u64;
+    if w.len <= len {
+        return Err(Refusal::NotReadable);
     }
-    let n = reading::number_in(f, s.at, 4, msf);
-    if !n.there {
-        return no_area();
-    }
-    let x = reading::number_in(f, s.at + 4, 4, msf);
-    if 5308416 < x.value {
-        return no_area();
-    }
-    let a = reading::place_in(f, s.at, 8, n.value, 8);
-    if !a.there {
-        return no_area();
-    }
-    if (f.len() as u64 - a.value) < x.value {
-        return no_area();
-    }
-    Area {
-        at: a.value as usize,
-        len: x.value as usize,
-    }
+    Ok(Some(Part { at: w.at, len }))
 }
 
-// Whether words stand in the text area of `x` bytes at `a`, with as many text bytes left as the area has from there on.
-fn stands_in(a: usize, x: usize, w: Words) -> bool
-    ensures { result ≡ stands_in a x w }
-{
-    if !w.found {
-        return false;
-    }
-    if w.at < a as u64 {
-        return false;
-    }
-    if (x as u64) < w.at - a as u64 {
-        return false;
-    }
-    w.len == x as u64 - (w.at - a as u64)
-}
-
-// Words up to their end: looked up, where they stand in the text area of `x` bytes at `a`, of which `t` says where texts end.
-fn ended_by(f: &[u8], t: &[u32; 20737], a: usize, x: usize, w: Words) -> Words
-    requires { (Ends f.now a x 0 t.now) × (a + x ≤ length f.now) × (x ≤ 5308416) }
+// The same, where `x` tells what is listed of a text area; none where there are none.
+fn ended_by(
+    f: &[u8],
+    t: &[u32; 20737],
+    x: Option<Listing>,
+    w: Option<Part>,
+) -> Result<Option<Part>, Refusal>
+    requires { ListingFits f.now t.now x }
     ensures { result ≡ ended_by f.now w }
 {
-    if !stands_in(a, x, w) {
-        return walks::ended(f, w);
-    }
-    let n = text_ends::length_from(f, t, a, x, w.at as usize - a) as u64;
-    if w.len <= n {
-        return walks::no_words(17);
-    }
-    Words {
-        code: 0,
-        found: true,
-        at: w.at,
-        len: n,
+    match (x, w) {
+        (Some(y), Some(part)) if y.all => looked_up(f, t, y.area, part),
+        _ => walks::ended(f, w),
     }
 }
 
-// The text bytes gone through, with `n` more; more than any text area has count as one more.
-fn spent_with(spent: u64, n: u64) -> u64
-    ensures { result ≤ 10616833 }
+// The label words of a cell that says `c`, of a variable with the label set `s`, where `t` and `x` tell of the ends that are listed.
+fn words_of(
+    f: &[u8],
+    s: Result<Option<LabelSet>, Refusal>,
+    c: Cell,
+    msf: bool,
+    t: &[u32; 20737],
+    x: Option<Listing>,
+) -> Result<Option<Part>, Refusal>
+    requires { (Lettered (says c)) × (ListingFits f.now t.now x) }
+    ensures { result ≡ cell_words (said_in (order_by msf) f.now s) c }
 {
-    if 5308416 < spent {
-        return 5308417;
-    }
-    if 5308416 < n {
-        return 5308417;
-    }
-    spent + n
+    ended_by(f, t, x, label_words::cell_place(f, s, c, msf)?)
 }
 
-// Lists the ends of the texts in the text area of `x` bytes at `a`, where `spent` bytes are more than that and `had` of its bytes are listed, none or all; how many then are.
-fn listed(t: &mut [u32; 20737], f: &[u8], a: usize, x: usize, had: usize, spent: u64) -> usize
-    requires { (Ends f.now a had 0 t.old) × (a + x ≤ length f.now) × (x ≤ 5308416) × (had ≤ x) }
-    ensures { (Ends f.now a result 0 t.new) × (result ≤ x) }
+// The label words of cell `i`, `j`, where `h` is the column of variable `i`, and `s` its label set.
+fn words_at(
+    f: &[u8],
+    l: Layout,
+    i: u64,
+    j: u64,
+    h: Result<Held, Refusal>,
+    s: Result<Option<LabelSet>, Refusal>,
+    t: &[u32; 20737],
+    x: Option<Listing>,
+) -> Result<Option<Part>, Refusal>
+    requires { (h ≡ held f.now (layout_by l) i) × (SetGiven f.now (layout_by l) i s) × (ListingFits f.now t.now x) }
+    ensures { result ≡ words_by (answer_of f.now (layout_by l) (ask_words i j [])) }
 {
-    if had != 0 {
-        return had;
-    }
-    if spent <= x as u64 {
-        return had;
-    }
-    text_ends::fill_ends(t, f, a, x);
-    x
+    let said = cell_runs::cell_in(f, l, h, i, j)?;
+    let msf = h?.o.msf;
+    words_of(f, s, said, msf, t, x)
 }
 
 // Stores label words at the start of `out`.
-fn put_words(out: &mut [u64], x: Words)
+fn put_words(out: &mut [u64], x: Result<Option<Part>, Refusal>)
     requires { 4 ≤ length out.old }
     ensures { out.new ≡ numbers_of (answer_by (by_words x)) ++ drop 4 out.old }
 {
     coded::put_four(out, coded::numbers_of(asking::by_words(x)));
 }
 
-// What is listed of the text area `g`, where `x` is what is listed: the same where it is of that area, else nothing.
-fn resumed(t: &mut [u32; 20737], f: &[u8], x: Listing, g: Area) -> Listing
-    requires { (ListingFits f.now t.old x) × (InFile f.now g) }
-    ensures { ListingFits f.now t.new result }
+// What is listed of the text area `g`, where `x` is what is listed of one: the same where it is of that area, else nothing.
+fn resumed(x: Option<Listing>, g: Option<Area>) -> Option<Listing>
+    ensures { Resumed x g result }
 {
-    if (x.at == g.at) & (x.len == g.len) {
-        return x;
-    }
-    t[0] = 0;
-    Listing {
-        at: g.at,
-        len: g.len,
-        had: 0,
-        spent: 0,
+    let area = g?;
+    match x {
+        Some(y) if y.area == area => x,
+        _ => Some(Listing {
+            area,
+            all: false,
+            spent: 0,
+        }),
     }
 }
 
+// What is listed, after `n` more text bytes: the ends of all texts, once this is more than the text area has.
+fn listed(t: &mut [u32; 20737], f: &[u8], x: Option<Listing>, n: u64) -> Option<Listing>
+    requires { ListingFits f.now t.old x }
+    ensures { (ListingFits f.now t.new result) × (Cheap result) }
+{
+    let mut y = x?;
+    y.spent = y.spent.saturating_add(n);
+    if !y.all && (y.area.len as u64) < y.spent {
+        text_ends::fill_ends(t, f, y.area.at, y.area.len);
+        y.all = true;
+    }
+    Some(y)
+}
+
 // The label words of variable `i` in `n` observations from `j` on, four numbers each, where `c` is where its cells stand, `s` its label set, and `t` and `x` tell of
-// the ends that are listed; what then is.
+// the ends that are listed, `x` being none where there are none; what then is. `t` and `x` stay two: what they say is true of a file, which a struct of both would not have.
 pub fn words_in(
     f: &[u8],
     l: Layout,
     i: u64,
     j: u64,
     n: usize,
-    c: Column,
-    s: LabelSet,
+    c: Result<Column, Refusal>,
+    s: Result<Option<LabelSet>, Refusal>,
     t: &mut [u32; 20737],
-    x: Listing,
+    x: Option<Listing>,
     out: &mut [u64],
-) -> Listing
+) -> Option<Listing>
     requires { (ColumnGiven f.now (layout_by l) i c s) × (ListingFits f.now t.old x) × (n * 4 ≤ length out.old) × (j + n ≤ 18446744073709551616) }
-    ensures { (out.new ≡ told f.now (layout_by l) (words_down i j) n ++ drop (n * 4) out.old) × (ListingFits f.now t.new result) }
+    ensures { (out.new ≡ told f.now (layout_by l) (words_down i j) n ++ drop (n * 4) out.old) × (ListingFits f.now t.new result) × (Cheap result) }
 {
-    let o = reading::edition_in(l.edition, l.order);
-    let start = cell_runs::place_of(l, 9);
-    let gap = reading::tag_size(o.e.tagged, 6);
-    let kind = c.kind;
-    let y = resumed(t, f, x, text_area(f, s, o.msf));
-    let mut had = y.had;
-    let mut spent = y.spent;
-    let mut m: usize = 0;
-    while m < n {
-        let row = cells::row_in(f, c.code, c.row, j + m as u64, l.n, start, gap);
-        let said = cells::cell_in_row(
-            f,
-            row,
-            kind,
-            c.width,
-            c.offset,
-            o.e.v_width,
-            o.e.o_width,
-            o.msf,
-        );
-        let w = label_words::cell_place(f, s, said, o.msf);
-        let e = ended_by(f, t, y.at, had, w);
-        put_words(&mut out[m * 4..], e);
-        spent = spent_with(spent, e.len);
-        had = listed(t, f, y.at, y.len, had, spent);
-        m += 1;
+    let h = cell_runs::held_by(l, c);
+    let area = match (s, h) {
+        (Ok(set), Ok(held)) => text_area(f, set, held.o.msf),
+        _ => None,
+    };
+    let mut y = listed(t, f, resumed(x, area), 0);
+    for m in 0..n {
+        let w = words_at(f, l, i, j + m as u64, h, s, t, y);
+        put_words(&mut out[m * 4..], w);
+        let gone = match w {
+            Ok(Some(part)) => part.len,
+            _ => 0,
+        };
+        y = listed(t, f, y, gone);
     }
-    Listing {
-        at: y.at,
-        len: y.len,
-        had,
-        spent,
-    }
+    y
 }
 
 // The label words of variable `i` from observation `j` on, four numbers each, as many as `out` has room for.
-pub fn words_down(f: &[u8], l: Layout, i: u64, j: u64, out: &mut [u64]) -> Run
+pub fn words_down(f: &[u8], l: Layout, i: u64, j: u64, out: &mut [u64]) -> Result<usize, Refusal>
     ensures { Tells f.now (layout_by l) i j (words_down i j) (following j l.n) out.old out.new result }
 {
-    let r = cell_runs::run_of(l, i, j, j, l.n, out.len());
+    let n = cell_runs::run_of(l, i, j, j, l.n, out.len())?;
     let c = columns::column_of(f, l, i);
     let s = label_words::set_of(f, l, i);
     let mut t = [0u32; 20737];
-    words_in(
-        f,
-        l,
-        i,
-        j,
-        r.count,
-        c,
-        s,
-        &mut t,
-        no_listing(),
-        &mut out[..],
-    );
-    r
+    words_in(f, l, i, j, n, c, s, &mut t, None, &mut out[..]);
+    Ok(n)
 }

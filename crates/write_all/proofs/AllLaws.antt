@@ -1,24 +1,22 @@
 -- What is written, section after section.
 use mathlib.Core.Path.{◌≡◌, refl, sym, ap, ◌∙◌, subst}
-use Prim.Native.Nat.{ℕ, zero, suc, ◌+◌, ◌-◌, ◌*◌, ◌≤◌}
+use Prim.Native.Nat.{ℕ, ◌+◌, ◌-◌, ◌*◌, ◌≤◌}
 use native.Mathlib.Omega.{arith}
-use mathlib.Core.List.{List, [], ◌∷◌, ◌++◌, append_assoc, append-nil}
+use mathlib.Core.List.{List, [], ◌++◌, append_assoc}
 use mathlib.Core.Bool.{Bool, true, false, cond}
 use lib.ListN.{length, take, drop}
 use Rattle.format.specs.Slot.{fill}
-use Rattle.format.specs.Number.{Order, order_by}
-use Rattle.format.specs.Grammar.{Sect, tag, walk, all_slots}
+use Rattle.format.specs.Number.{Order}
+use Rattle.format.specs.Grammar.{tag}
 use Rattle.format.specs.Edition.{Edition, opening, closing, blocks_end, n_characteristics, n_map, map_count}
 use Rattle.format.specs.Header.{Head, header}
 use Rattle.format.specs.Variables.{file_map}
 use Rattle.format.specs.Expansion.{expansions}
 use Rattle.format.specs.Dta.{Dataset, head_of, map_of, positions, dataset_of, written, part_sizes}
-use Rattle.format.proofs.WriteLaws.{written_parts, fill_append, fill_bytes, fill_length}
+use Rattle.format.proofs.WriteLaws.{written_parts, fill_length}
 use Rattle.format.proofs.HeaderLaws.{header_good}
 use Rattle.format.proofs.SlotLaws.{length_fill}
 use Rattle.format.proofs.PartLaws.{map_length}
-use Rattle.editions.specs.Editions.{numbers_of}
-use Rattle.editions.specs.declared.Edition as Code
 use Rattle.sources.specs.declared.Source.{Source}
 use Rattle.sources.specs.Sources.{Sourced}
 use Rattle.sources.specs.Parts.{head_to, map_to, types_to, names_to, sort_to, formats_to, sets_to, labels_to, extras_to, rows_to, longs_to, blocks_to}
@@ -67,17 +65,33 @@ module _ (e : Edition) (o : Order) (d : Dataset) where
   unfolding part_sizes
   fourteen p h = ap length h
 
+-- the n bytes from p on, as code takes them
+cut : (f : List ℕ) (p n : ℕ) → take (p + n - p) (drop p f) ≡ take n (drop p f)
+cut f p n = let e : p + n - p ≡ n = omega arith in ap (λ (k : ℕ). take k (drop p f)) e
+
 -- the header
 module _ (f : List ℕ) (s : Source) (S : Sourced f s) (e : Edition) (o : Order) where
-  head_of_lem : (s.k, (s.n, (take s.llen (drop s.lat f), take s.slen (drop s.sat f)))) ≡ head_of (dataset_of f)
-  head_of_lem = λ i. (S.variables i, (S.observations i, (S.label.is i, S.stamp.is i)))
+  abbrev label : List ℕ
+  label = take (s.lat + s.llen - s.lat) (drop s.lat f)
 
-  pub head_is : fill ((header e o).slots (s.k, (s.n, (take s.llen (drop s.lat f), take s.slen (drop s.sat f))))) ≡ head_to e o (dataset_of f)
+  abbrev stamp : List ℕ
+  stamp = take (s.sat + s.slen - s.sat) (drop s.sat f)
+
+  pub label_is : label ≡ (dataset_of f).label
+  label_is = cut f s.lat s.llen ∙ S.label.is
+
+  pub stamp_is : stamp ≡ (dataset_of f).stamp
+  stamp_is = cut f s.sat s.slen ∙ S.stamp.is
+
+  head_of_lem : (s.k, (s.n, (label, stamp))) ≡ head_of (dataset_of f)
+  head_of_lem = λ i. (S.variables i, (S.observations i, (label_is i, stamp_is i)))
+
+  pub head_is : fill ((header e o).slots (s.k, (s.n, (label, stamp)))) ≡ head_to e o (dataset_of f)
   unfolding head_to
   head_is = ap (λ (h : Head). fill ((header e o).slots h)) head_of_lem
 
   pub head_room : e.number ≤ 255 → (n : ℕ) → length (head_to e o (dataset_of f)) ≤ n
-      → (header e o).size (s.k, (s.n, (take s.llen (drop s.lat f), take s.slen (drop s.sat f)))) ≤ n
+      → (header e o).size (s.k, (s.n, (label, stamp))) ≤ n
   unfolding head_to
   head_room b n h =
       subst (λ (x : Head). (header e o).size x ≤ n) (sym head_of_lem)

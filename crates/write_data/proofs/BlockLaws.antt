@@ -6,7 +6,7 @@ use native.Mathlib.Nat.{zero-mul, suc-mul}
 use native.Mathlib.Omega.{arith}
 use native.Mathlib.Numerals.{add-one}
 use borrow.Rule.Slice.PartMut.{put_mid}
-use lib.ListN.{length, take, drop, length-append, length-take, length-drop, drop_of_length-le, take-append-drop}
+use lib.ListN.{length, take, drop, length-append, length-drop, drop_of_length-le, take-append-drop}
 use lib.Seq.{take-append-le, drop-append-le, take-append-add, drop-append-add, take_at, drop-drop, take_all, length-take-le}
 use Rattle.data.proofs.PlaceLaws.{row_in_lem}
 use Rattle.write_data.specs.declared.Forms.{Forms}
@@ -78,14 +78,6 @@ module _ (B : ℕ → List ℕ) (a w z : ℕ) (fits : a + z ≤ w) where
   strewn_next m x y l e =
       ap (λ (u : List ℕ). over (m * w + a) (B m) u) (strewn_left m x y l (omega arith))
       ∙ over_right (m * w) a (B m) (strewn B a w m x) y (strewn_long m x l (omega arith) ∙ e)
-
--- a kind and a count that are known
-pub run_fits : (s k c n a w : ℕ) → s ≡ k → c ≡ n → a + run_size s c ≤ w → a + run_size k n ≤ w
-run_fits s k c n a w e g b = let z : run_size s c ≡ run_size k n = λ i. run_size (e i) (g i) in omega arith
-
-pub run_strewn : (h : Forms) (s k c n : ℕ) (f : List ℕ) (q a w m : ℕ) (x u : List ℕ) → s ≡ k → c ≡ n → u ≡ strewn (λ (j : ℕ). run_bytes h k n f (q + (j * w + a))) a w m x
-    → u ≡ strewn (λ (j : ℕ). run_bytes h s c f (q + (j * w + a))) a w m x
-run_strewn h s k c n f q a w m x u e g y = y ∙ sym (λ i. strewn (λ (j : ℕ). run_bytes h (e i) (g i) f (q + (j * w + a))) a w m x)
 
 -- ---- all runs
 

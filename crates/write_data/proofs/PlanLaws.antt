@@ -8,25 +8,22 @@ use native.Mathlib.Numerals.{add-one}
 use lib.ListN.{length}
 use Rattle.format.specs.Slot.{fill, Bytes}
 use Rattle.format.specs.Number.{order_by}
-use Rattle.format.specs.Grammar.{row_slots, read_row, row}
+use Rattle.format.specs.Grammar.{row_slots, read_row}
 use Rattle.format.specs.Variables.{VarType, text_type, strl_type, byte_type, int_type, long_type, float_type, double_type}
 use Rattle.format.specs.Data.{Cell}
 use Rattle.format.proofs.WriteLaws.{fill_append}
 use Rattle.codes.specs.declared.Field.{Field}
 use Rattle.codes.specs.Fields.{field_by}
 use Rattle.data.specs.Places.{field_at, off_at}
-use Rattle.data.proofs.PlaceLaws.{off_small, type_at, field_type, RightFrom, types_from, right_next, right_field, types_step, types_first, first}
+use Rattle.data.proofs.PlaceLaws.{off_small, field_small, type_at, field_type, RightFrom, types_from, right_next, right_field, types_step, types_first, first}
 use Rattle.write_data.specs.declared.Source.{Source}
 use Rattle.write_data.specs.declared.Forms.{Forms}
 use Rattle.write_data.specs.Rows.{from, to, Eights, Sourced, row_bytes}
 use Rattle.write_data.specs.Runs.{run_kind, run_step, run_size, run_bytes, runs_size, runs_bytes, Added, Planned}
-use Rattle.write_data.proofs.CellLaws.{size_is, cell_run}
-
-pub div_le : (a b : ℕ) → a / b ≤ a
-div_le a b = div-le_self a b
+use Rattle.write_data.proofs.CellLaws.{kind_small, size_is, cell_run}
 
 -- a variable's cells start within 2 ^ 26 bytes
-pub offset_small : (f : List ℕ) (g : Source) → g.k ≤ 32767 → (i : ℕ) → i < g.k → off_at g.tagged (order_by g.msf) f g.types i + 2045 ≤ 67108864
+offset_small : (f : List ℕ) (g : Source) → g.k ≤ 32767 → (i : ℕ) → i < g.k → off_at g.tagged (order_by g.msf) f g.types i + 2045 ≤ 67108864
 offset_small f g few i b =
     omega (arith, off_small g.tagged (order_by g.msf) f g.types i, mul-le-mul_right {m = i} {n = 32767} 2045 (omega arith))
 
@@ -52,18 +49,31 @@ module _ (f : List ℕ) (g : Source) (h : Forms) where
     pub size : runs_size t r ≡ offset i
     pub bytes : (q : ℕ) → q + offset i ≤ length f → runs_bytes t h r f q ≡ front q i
 
-  pub plan_start : (t : List ℕ) → length t ≡ 32768 → Planning t 0 0
-  plan_start t e = record { few = omega arith; long = e; size = refl; bytes = λ q b. refl }
+  -- a count fits the table
+  pub plan_cast : (i : ℕ) (x : Field) → x ≡ field i → (b : ℕ) → x.width / b < 4294967296
+  plan_cast i x e b =
+      omega (arith, field_small g.tagged (order_by g.msf) f g.types i, ap (λ (y : Field). y.width) e, div-le_self x.width b)
 
   module _ (F : Sourced f g) (E : Eights h) where
     -- the field of a variable is that of its type
     type_field_lem : (i : ℕ) → i < g.k → field i ≡ field_by (type_of i)
     type_field_lem i b = field_type g.tagged (order_by g.msf) f g.types g.k F.typed.right i b
 
-    pub plan_size : (i : ℕ) → i < g.k → (x : Field) → x ≡ field i → (s b c : ℕ) → s ≡ run_kind h x.kind → b ≡ run_step s → c ≡ x.width / b → run_size s c ≡ (field i).width
+    plan_size : (i : ℕ) → i < g.k → (x : Field) → x ≡ field i → (s b c : ℕ) → s ≡ run_kind h x.kind → b ≡ run_step s → c ≡ x.width / b → run_size s c ≡ (field i).width
     plan_size i l x e s b c es eb ec =
         let y : x ≡ field_by (type_of i) = e ∙ type_field_lem i l in
         rw (ec, eb, es, y, type_field_lem i l) (size_is h (type_of i))
+
+    -- there is room for one more
+    pub plan_room : (t : List ℕ) (r i : ℕ) → i < g.k → Planning t r i → (x : Field) → x ≡ field i → (s b c : ℕ) → s ≡ run_kind h x.kind → b ≡ run_step s → c ≡ x.width / b
+        → (length t ≡ 32768) × (r ≤ 32767) × (s < 16) × (runs_size t r + run_size s c ≤ 67108864)
+    plan_room t r i l P x e s b c es eb ec =
+        let few = F.typed.few in (
+          P.long,
+          omega (arith, P.few),
+          rw es (kind_small h x.kind),
+          omega (arith, plan_size i l x e s b c es eb ec, field_small g.tagged (order_by g.msf) f g.types i, P.size, offset_small f g few i l),
+        )
 
     plan_cell : Bytes f → (p i : ℕ) → p + (field_by (type_of i)).width ≤ length f → (x : Field) → x ≡ field_by (type_of i) → (s b c : ℕ) → s ≡ run_kind h x.kind
         → b ≡ run_step s → c ≡ x.width / b → run_bytes h s c f p ≡ fill ((to h (type_of i)).slots ((from h (type_of i)).read f p))

@@ -12,7 +12,7 @@ use Rattle.format.specs.Number.{Order, msf, lsf, num, num_slots}
 use Rattle.format.specs.Grammar.{Sect, all_slots, read_times, number}
 use Rattle.format.proofs.Good.{number_good}
 use Rattle.format.proofs.WriteLaws.{fill_append, fill_length}
-use Rattle.text.proofs.Lay.{Laid, laid_none, laid_part, laid_as}
+use Rattle.text.proofs.Lay.{Laid, laid_part, laid_as}
 use Rattle.write_data.specs.Rows.{put_times}
 use Rattle.write_data.specs.Runs.{turned}
 
@@ -63,10 +63,6 @@ module _ {A : Type 0} (S T : Sect A) (w : ℕ) (f : List ℕ) (wide : (p : ℕ) 
     laid_times q j l p e room =
         let x = S.read f (q + j * w) in
         laid_as (laid_part l (fill (T.slots x)) p w (long (q + j * w)) room e) (times_more j q) (one_more j w)
-
-  -- before the first turn
-  pub laid_start : (q : ℕ) (d : List ℕ) → Laid (put_times S T 0 f q) (0 * w) d d
-  laid_start q d = laid_as (laid_none d) refl (sym (zero-mul w))
 
 -- after the last turn
 pub laid_end : {A : Type 0} (S T : Sect A) (w : ℕ) (f : List ℕ) (q i c : ℕ) {d u : List ℕ} → Laid (put_times S T i f q) (i * w) d u → i ≡ c

@@ -20,7 +20,7 @@ use Rattle.format.proofs.WriteLaws.{fill_length, fill_append}
 use Rattle.text.proofs.Lay.{laid_first, laid_part, laid_as}
 use borrow.Rule.Slice.PartMut.{put_mid}
 use Rattle.write_data.specs.declared.Forms.{Forms}
-use Rattle.write_data.specs.Rows.{from, to, put_times, Eights}
+use Rattle.write_data.specs.Rows.{from, to, Eights}
 use Rattle.write_data.specs.Runs.{run_step, run_size, run_bytes, kind_at, count_at, runs_size, runs_bytes, joins, Added}
 use Rattle.write_data.proofs.PutLaws.{times_split, times_length, number_long}
 
@@ -95,15 +95,6 @@ module _ (h : Forms) (E : Eights h) (f : List ℕ) where
 
 -- ---- what is put for one run
 
--- the kind's number is known
-pub run_as : (h : Forms) (s k c : ℕ) (f : List ℕ) (q : ℕ) (d u : List ℕ) → s ≡ k → u ≡ run_bytes h k c f q ++ drop (run_size k c) d
-    → u ≡ run_bytes h s c f q ++ drop (run_size s c) d
-run_as h s k c f q d u e x = rw e x
-
--- a kind of steps of 1
-pub one_step : (t : List ℕ) (c : ℕ) (d u : List ℕ) → u ≡ t ++ drop c d → u ≡ t ++ drop (c * 1) d
-one_step t c d u e = rw mul-one e
-
 pub run_eight : (h : Forms) (s c : ℕ) (f : List ℕ) (q : ℕ) → (s ≡ 0 → ⊥) → (s ≡ 1 → ⊥) → (s ≡ 2 → ⊥) → (s ≡ 3 → ⊥) → (s ≡ 4 → ⊥)
     → run_bytes h 8 c f q ≡ run_bytes h s c f q
 unfolding run_bytes
@@ -113,11 +104,6 @@ run_eight h (suc (suc zero)) c f q a b i j k = absurd (i refl)
 run_eight h (suc (suc (suc zero))) c f q a b i j k = absurd (j refl)
 run_eight h (suc (suc (suc (suc zero)))) c f q a b i j k = absurd (k refl)
 run_eight h (suc (suc (suc (suc (suc s))))) c f q a b i j k = refl
-
-pub eight_as : (h : Forms) (s c : ℕ) (f : List ℕ) (q : ℕ) (d u : List ℕ) → (s ≡ 0 → ⊥) → (s ≡ 1 → ⊥) → (s ≡ 2 → ⊥) → (s ≡ 3 → ⊥) → (s ≡ 4 → ⊥)
-    → u ≡ put_times (number lsf 8) (number msf 8) c f q ++ drop (c * 8) d → u ≡ run_bytes h s c f q ++ drop (run_size s c) d
-unfolding run_bytes
-eight_as h s c f q d u a b i j k e = rw (step_eight s a b i j k, sym (run_eight h s c f q a b i j k)) e
 
 -- a text fits its field
 pub text_short : (w : ℕ) (f : List ℕ) (p : ℕ) → length (text_at w f p) ≤ w

@@ -2,13 +2,12 @@
 use mathlib.Core.Path.{◌≡◌, refl, sym, ap, ◌∙◌}
 use mathlib.Core.List.{List, ◌++◌, append-nil}
 use Prim.Native.Nat.{ℕ, ◌+◌, ◌-◌, ◌≤◌, ◌<◌}
-use native.Mathlib.Nat.{add-zero, zero-add, sub-zero}
 use native.Mathlib.Omega.{arith}
 use borrow.Rule.Slice.PartMut.{put_mid}
 use lib.ListN.{length, get_or, take, drop, set, replicate, length-replicate}
 use Rattle.format.specs.Slot.{fill}
 use Rattle.format.specs.Grammar.{text_at, text_slots}
-use Rattle.text.proofs.Lay.{Laid, laid_none, laid_byte, laid_part, laid_as}
+use Rattle.text.proofs.Lay.{Laid, laid_byte, laid_part, laid_as}
 use Rattle.text.proofs.TextLaws.{text_stop, text_turn, text_none, bytes_turn, text_put}
 
 -- i bytes of the text are copied
@@ -18,9 +17,6 @@ pub record Copied (f : List ℕ) (q w i : ℕ) (d u : List ℕ) : Type 0 where
   pub laid : Laid (take i (drop q f)) i d u
 
 module _ (f : List ℕ) (q w : ℕ) (inside : q + w ≤ length f) where
-  pub word_start : (d : List ℕ) → Copied f q w 0 d d
-  word_start d = record { within = omega arith; length_is = rw (zero-add, sub-zero, add-zero); laid = laid_none d }
-
   module _ (i : ℕ) {d u : List ℕ} (C : Copied f q w i d u) (room : w ≤ length d) where
     pub word_more : i < w → (get_or f (q + i) 0 ≡ 0 → ⊥) → Copied f q w (i + 1) d (set u i (get_or f (q + i) 0))
     word_more b z =

@@ -38,37 +38,28 @@ pub struct Forms {
 }
 
 // ---- runs: cells beside each other that are written in the same way, by their kind: 0, a text; 1, bytes that are copied;
-// 2, 4 and 8, numbers of so many bytes; 3, references. A run in a table is its count times 16, and its kind.
+// 2, 4 and 8, numbers of so many bytes; 3, references. A run in a table is its count times 16, and its kind. It is one number, and no
+// enum beside a count: a table of 32,768 runs is fixed memory.
 
 // Whether numbers keep their byte order.
 fn same_order(h: Forms) -> bool
     ensures { result ≡ same_order h }
 {
-    if h.msf { h.tomsf } else { !h.tomsf }
+    h.msf == h.tomsf
 }
 
 // Whether references keep their form.
 fn kept(h: Forms) -> bool
     ensures { result ≡ keeps h }
 {
-    if same_order(h) { h.v == h.tov } else { false }
-}
-
-// 1 where `b` holds, else `x`.
-fn one_if(b: bool, x: u32) -> u32
-    ensures { result ≡ cond b 1 x }
-{
-    if b { 1 } else { x }
+    same_order(h) && h.v == h.tov
 }
 
 // How references that change are written: as numbers of 4 bytes where v and o are that before and after.
 fn link_kind(h: Forms) -> u32
     ensures { result ≡ cond (halves h) 4 3 }
 {
-    if h.v != 4 {
-        return 3;
-    }
-    if h.tov == 4 { 4 } else { 3 }
+    if h.v == 4 && h.tov == 4 { 4 } else { 3 }
 }
 
 // How cells of a kind are written.
@@ -76,18 +67,17 @@ fn run_kind(kind: Kind, h: Forms) -> u32
     ensures { result ≡ run_kind h kind }
 {
     match kind {
-        Kind::Text => 0,
-        Kind::StrL => one_if(kept(h), link_kind(h)),
+        Kind::Text | Kind::Unknown => 0,
+        Kind::StrL => if kept(h) { 1 } else { link_kind(h) },
         Kind::Byte => 1,
-        Kind::Int => one_if(same_order(h), 2),
-        Kind::Long => one_if(same_order(h), 4),
-        Kind::Float => one_if(same_order(h), 4),
-        Kind::Double => one_if(same_order(h), 8),
-        Kind::Unknown => 0,
+        Kind::Int => if same_order(h) { 1 } else { 2 },
+        Kind::Long | Kind::Float => if same_order(h) { 1 } else { 4 },
+        Kind::Double => if same_order(h) { 1 } else { 8 },
     }
 }
 
-// How many bytes a count of 1 stands for.
+// How many bytes a count of 1 stands for. Arms are not joined: with `0 | 1`, short runs were put measurably slower.
+#[tactic(auto, using(crate::proofs::RunLaws::step_eight), unfolding(crate::specs::Runs::run_step))]
 fn run_step(s: u32) -> usize
     ensures { (result ≡ run_step s) × (1 ≤ result) × (result ≤ 8) }
 {
@@ -106,13 +96,7 @@ fn joins_last(t: &[u32; 32768], r: usize, s: u32) -> bool
     requires { r ≤ 32768 }
     ensures { result ≡ joins t.now r s }
 {
-    if s == 0 {
-        return false;
-    }
-    if r == 0 {
-        return false;
-    }
-    t[r - 1] % 16 == s
+    s != 0 && r != 0 && t[r - 1] % 16 == s
 }
 
 // One run more after the `r` runs of `t`; gives how many there are then.
@@ -122,10 +106,11 @@ fn add_run(t: &mut [u32; 32768], r: usize, s: u32, c: u32) -> usize
 {
     if joins_last(t, r, s) {
         t[r - 1] += c * 16;
-        return r;
+        r
+    } else {
+        t[r] = c * 16 + s;
+        r + 1
     }
-    t[r] = c * 16 + s;
-    r + 1
 }
 
 // The runs of a row, into `t`; gives how many there are.
@@ -134,14 +119,11 @@ fn plan(t: &mut [u32; 32768], f: &[u8], g: Source, h: Forms) -> usize
     ensures { Planned f.now g h t.new result }
 {
     let mut r: usize = 0;
-    let mut i: usize = 0;
-    while i < g.k {
+    for i in 0..g.k {
         let x = data::field_at(f, g.types, i, g.tagged, g.msf);
-        let kind = x.kind;
-        let s = run_kind(kind, h);
+        let s = run_kind(x.kind, h);
         let c = (x.width / run_step(s)) as u32;
         r = add_run(t, r, s, c);
-        i += 1;
     }
     r
 }
@@ -156,15 +138,14 @@ fn put_turned(out: &mut [u8], f: &[u8], q: usize, w: usize)
     number::put_number(out, number::number(f, q, w, false), w, true);
 }
 
-// The `c` numbers of `w` bytes at `q`, each with its bytes in the other order.
+// The `c` numbers of `w` bytes at `q`, each with its bytes in the other order. It stands here, not beside other writers of numbers: it is
+// called with literals, so that each width has a loop of its own.
 fn put_numbers(out: &mut [u8], f: &[u8], q: usize, c: usize, w: usize)
     requires { (q + c * w ≤ length f.now) × (c * w ≤ length out.old) × (w ≤ 8) }
     ensures { out.new ≡ put_times (number lsf w) (number msf w) c f.now q ++ drop (c * w) out.old }
 {
-    let mut i: usize = 0;
-    while i < c {
+    for i in 0..c {
         put_turned(&mut out[i * w..], f, q + i * w, w);
-        i += 1;
     }
 }
 
@@ -173,14 +154,12 @@ fn put_word(out: &mut [u8], f: &[u8], q: usize, w: usize)
     requires { (q + w ≤ length f.now) × (w ≤ length out.old) }
     ensures { out.new ≡ fill (text_slots w (text_at w f.now q)) ++ drop w out.old }
 {
-    let mut i: usize = 0;
-    while i < w {
+    for i in 0..w {
         if f[q + i] == 0 {
             text::put_zeros(&mut out[i..], w - i);
             return;
         }
         out[i] = f[q + i];
-        i += 1;
     }
 }
 
@@ -191,9 +170,9 @@ fn put_field(out: &mut [u8], f: &[u8], q: usize, w: usize)
 {
     if w < 32 {
         put_word(out, f, q, w);
-        return;
+    } else {
+        text::put_text(out, f, q, w, w);
     }
-    text::put_text(out, f, q, w, w);
 }
 
 // The reference at `q`.
@@ -213,14 +192,13 @@ fn put_links(out: &mut [u8], f: &[u8], q: usize, c: usize, h: Forms)
     requires { (q + c * 8 ≤ length f.now) × (c * 8 ≤ length out.old) × Eights h }
     ensures { out.new ≡ put_times (from h strl_type) (to h strl_type) c f.now q ++ drop (c * 8) out.old }
 {
-    let mut i: usize = 0;
-    while i < c {
+    for i in 0..c {
         put_link(&mut out[i * 8..], f, q + i * 8, h);
-        i += 1;
     }
 }
 
 // The run of kind `s` and count `c` at `q`.
+#[tactic(auto, using(crate::proofs::RunLaws::step_eight, crate::proofs::RunLaws::run_eight), unfolding(crate::specs::Runs::run_step, crate::specs::Runs::run_bytes))]
 fn put_run(out: &mut [u8], f: &[u8], q: usize, s: u32, c: usize, h: Forms)
     requires { (q + run_size s c ≤ length f.now) × (run_size s c ≤ length out.old) × Eights h }
     ensures { out.new ≡ run_bytes h s c f.now q ++ drop (run_size s c) out.old }
@@ -237,7 +215,8 @@ fn put_run(out: &mut [u8], f: &[u8], q: usize, s: u32, c: usize, h: Forms)
 
 // ---- rows, by blocks: a run is put for all rows of a block before the next one is, so that what kind it is is asked once for a block
 
-// The run of kind `s` and count `c` at `a` of each of the `m` rows of `w` bytes from `q` on.
+// The run of kind `s` and count `c` at `a` of each of the `m` rows of `w` bytes from `q` on. Rows are numbers, no struct: clauses name each
+// of them, and would be no plainer.
 fn put_runs(
     out: &mut [u8],
     f: &[u8],
@@ -252,11 +231,9 @@ fn put_runs(
     requires { (q + m * w ≤ length f.now) × (m * w ≤ length out.old) × (a + run_size s c ≤ w) × Eights h }
     ensures { out.new ≡ strewn (λ (j : ℕ). run_bytes h s c f.now (q + (j * w + a))) a w m out.old }
 {
-    let mut i: usize = 0;
-    while i < m {
+    for i in 0..m {
         let b = i * w + a;
         put_run(&mut out[b..], f, q + b, s, c, h);
-        i += 1;
     }
 }
 
@@ -318,12 +295,10 @@ fn put_block(
     ensures { out.new ≡ block_bytes t.now h r f.now q w m ++ drop (m * w) out.old }
 {
     let mut a: usize = 0;
-    let mut i: usize = 0;
-    while i < r {
+    for i in 0..r {
         let e = t[i];
         put_column(&mut out[..], f, q, a, e, w, m, h);
         a += run_size(e);
-        i += 1;
     }
 }
 
@@ -357,10 +332,7 @@ fn put_each(out: &mut [u8], f: &[u8], t: &[u32; 32768], r: usize, w: usize, g: S
 fn one_run(t: &[u32; 32768], r: usize) -> bool
     ensures { result ≡ one_run t.now r }
 {
-    if r != 1 {
-        return false;
-    }
-    t[0] % 16 != 0
+    r == 1 && t[0] % 16 != 0
 }
 
 // The observations of the source, in the byte order of `tomsf` and with v in `tov` and o in `too` bytes of a strL cell; gives how
@@ -383,8 +355,8 @@ pub fn put_rows(out: &mut [u8], f: &[u8], g: Source, tomsf: bool, tov: usize, to
     let m = g.n * w;
     if one_run(&t, r) {
         put_run(out, f, g.p, t[0] % 16, (t[0] / 16) as usize * g.n, h);
-        return m;
+    } else {
+        put_each(out, f, &t, r, w, g, h);
     }
-    put_each(out, f, &t, r, w, g, h);
     m
 }

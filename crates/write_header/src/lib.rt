@@ -1,6 +1,6 @@
 #![tactic(auto)]
 
-ghost use Rattle.std.specs.Prelude.{◌+◌, ◌≤◌, length, take, drop};
+ghost use Rattle.std.specs.Prelude.{◌≤◌, length};
 ghost use Rattle.format.specs.Slot.{fill};
 ghost use Rattle.format.specs.Number.{order_by};
 ghost use Rattle.format.specs.Header.{header};
@@ -21,24 +21,21 @@ pub fn header_size(e: Edition, llen: usize, slen: usize) -> usize
     25 + (e.n_width + e.label_max)
 }
 
-// The header of the edition `e` with K = `k` and N = `n`; the label is the `llen` bytes of `f` at `lat`, the stamp the `slen` at `sat`.
+// The header of the edition `e` with K = `k` and N = `n`, the label and the stamp.
 pub fn put_header(
     out: &mut [u8],
-    f: &[u8],
     e: Edition,
     msf: bool,
     k: u64,
     n: u64,
-    lat: usize,
-    llen: usize,
-    sat: usize,
-    slen: usize,
+    label: &[u8],
+    stamp: &[u8],
 ) -> usize
-    requires { (lat + llen ≤ length f.now) × (sat + slen ≤ length f.now) × (llen ≤ e.label_max) × (slen ≤ 17) × (e.n_width ≤ 8) × (e.label_length ≤ 8) × (e.label_max ≤ 65535) × ((header (numbers_of e) (order_by msf)).size (k, (n, (take llen (drop lat f.now), take slen (drop sat f.now)))) ≤ length out.old) }
-    ensures { Puts (fill ((header (numbers_of e) (order_by msf)).slots (k, (n, (take llen (drop lat f.now), take slen (drop sat f.now)))))) out.old out.new result }
+    requires { (length label.now ≤ e.label_max) × (length stamp.now ≤ 17) × (e.n_width ≤ 8) × (e.label_length ≤ 8) × (e.label_max ≤ 65535) × ((header (numbers_of e) (order_by msf)).size (k, (n, (label.now, stamp.now))) ≤ length out.old) }
+    ensures { Puts (fill ((header (numbers_of e) (order_by msf)).slots (k, (n, (label.now, stamp.now))))) out.old out.new result }
 {
     if e.tagged {
-        return write_new_header::put_new(out, f, e, msf, k, n, lat, llen, sat, slen);
+        return write_new_header::put_new(out, e, msf, k, n, label, stamp);
     }
-    write_old_header::put_old(out, f, e, msf, k, n, lat, llen, sat, slen)
+    write_old_header::put_old(out, e, msf, k, n, label, stamp)
 }

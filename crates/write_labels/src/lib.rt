@@ -30,9 +30,7 @@ fn frame_size(tagged: bool, w: usize) -> usize
     requires { w ≤ 255 }
     ensures { (result ≡ length (opening tagged n_lbl) + (4 + (w + 3)) + length (closing tagged n_lbl)) × (result ≤ 273) }
 {
-    let a = open_size(tagged);
-    let b = close_size(tagged);
-    a + (4 + (w + 3)) + b
+    open_size(tagged) + (4 + (w + 3)) + close_size(tagged)
 }
 
 // The table length of the label block at `p`.
@@ -40,8 +38,7 @@ fn table_len(f: &[u8], p: usize, tagged: bool, msf: bool) -> usize
     requires { p + length (opening tagged n_lbl) + 4 ≤ length f.now }
     ensures { IsNumber (order_by msf) 4 f.now (p + length (opening tagged n_lbl)) result }
 {
-    let a = open_size(tagged);
-    number::number(f, p + a, 4, msf) as usize
+    number::number(f, p + open_size(tagged), 4, msf) as usize
 }
 
 // How many bytes the label blocks from `p` to `q` take in another form.
@@ -102,7 +99,7 @@ fn put_head(out: &mut [u8], f: &[u8], p: usize, w: usize, msf: bool, tow: usize,
     ensures { out.new ≡ fill ((block_head (order_by tomsf) tow).slots ((block_head (order_by msf) w).read f.now p)) ++ drop (4 + (tow + 3)) out.old }
 {
     let s = number::number(f, p, 4, msf);
-    number::put_number(&mut out[0..], s, 4, tomsf);
+    number::put_number(&mut out[..], s, 4, tomsf);
     text::put_text(&mut out[4..], f, p + 4, w, tow);
     let a = 4 + tow;
     text::put_zeros(&mut out[a..], 3);
@@ -133,16 +130,13 @@ fn put_block(
     requires { BlockRoom tagged (order_by msf) w totagged (order_by tomsf) tow f.now p (length out.old) }
     ensures { PutsBlock tagged (order_by msf) w totagged (order_by tomsf) tow f.now p out.old out.new result }
 {
-    let s = open_size(tagged);
-    let h = p + s;
+    let h = p + open_size(tagged);
     let q = h + (4 + (w + 3));
     let a = writing::put_tag(&mut out[..], b"<lbl>", totagged);
     put_head(&mut out[a..], f, h, w, msf, tow, tomsf);
     let b = a + (4 + (tow + 3));
-    let k = put_counted(&mut out[b..], f, q, msf, tomsf);
-    let c = b + k;
-    let e = writing::put_tag(&mut out[c..], b"</lbl>", totagged);
-    c + e
+    let c = b + put_counted(&mut out[b..], f, q, msf, tomsf);
+    c + writing::put_tag(&mut out[c..], b"</lbl>", totagged)
 }
 
 // Puts the label blocks from `p` to `q` in another form; gives how many bytes.
@@ -166,8 +160,7 @@ pub fn put_blocks(
     let mut n: usize = 0;
     while at < q {
         let t = table_len(f, at, tagged, msf);
-        let k = put_block(&mut out[n..], f, at, tagged, w, msf, totagged, tow, tomsf);
-        n += k;
+        n += put_block(&mut out[n..], f, at, tagged, w, msf, totagged, tow, tomsf);
         at += frame + t;
     }
     n

@@ -12,12 +12,8 @@ fn put_positions(out: &mut [u8], places: [u64; 14], msf: bool)
     requires { (length places ≡ 14) × (112 ≤ length out.old) }
     ensures { out.new ≡ fill (all_slots (number (order_by msf) 8) places) ++ drop 112 out.old }
 {
-    let mut q: usize = 0;
-    let mut i: usize = 0;
-    while i < 14 {
-        number::put_number(&mut out[q..], places[i], 8, msf);
-        q += 8;
-        i += 1;
+    for i in 0..14 {
+        number::put_number(&mut out[i * 8..], places[i], 8, msf);
     }
 }
 
@@ -38,7 +34,8 @@ pub fn put_map(out: &mut [u8], places: [u64; 14], tagged: bool, msf: bool) -> us
     ensures { Puts (fill ((file_map tagged (order_by msf)).slots (cond tagged places []))) out.old out.new result }
 {
     if tagged {
-        return put_tagged(out, places, msf);
+        put_tagged(out, places, msf)
+    } else {
+        0
     }
-    0
 }

@@ -1,11 +1,10 @@
 -- The parts of a tagged header: how long they are, and that one after another they are the header.
 use mathlib.Core.Path.{◌≡◌, refl, sym, ap, ◌∙◌}
-use Prim.Native.Nat.{ℕ, ◌+◌, ◌≤◌}
+use Prim.Native.Nat.{ℕ, ◌+◌}
 use native.Mathlib.Omega.{arith}
 use mathlib.Core.List.{List, ◌++◌, map, append_assoc}
 use mathlib.Core.Bool.{Bool, true, false}
-use lib.ListN.{length, take, drop, length-drop}
-use lib.Seq.{length-take-le}
+use lib.ListN.{length}
 use lib.Dec.{leb}
 use Rattle.format.specs.Slot.{Slot, byte, fill}
 use Rattle.format.specs.Number.{Order, msf, lsf, order_by, num_slots}
@@ -22,10 +21,6 @@ use Rattle.write_new_header.specs.Parts.{num_bytes, counted_bytes, tagged, order
 pub num_length : (o : Order) (w n : ℕ) → length (num_bytes o w n) ≡ w
 num_length o w n = length_fill (num_slots o w n) ∙ length_tab w _
 
--- the n bytes of f at p
-pub cut_length : (f : List ℕ) (p n : ℕ) → p + n ≤ length f → length (take n (drop p f)) ≡ n
-cut_length f p n h = length-take-le n (drop p f) (simp length-drop (omega arith))
-
 -- ---- the parts
 
 -- the byte order
@@ -40,10 +35,6 @@ pub order_lsf : (b : Bool) (d w : List ℕ) (r : ℕ) → b ≡ false
     → (r ≡ 36) × (Puts (order_bytes (order_by b)) d w r)
 unfolding order_bytes
 order_lsf b d w r e h = rw e (h.long, h)
-
--- bytes with their number before them
-pub counted_as : (o : Order) (w n : ℕ) (l : List ℕ) → length l ≡ n → num_bytes o w n ++ l ≡ counted_bytes o w l
-counted_as o w n l e = ap (λ (k : ℕ). num_bytes o w k ++ l) (sym e)
 
 -- one law for what stands between tags
 part : {A : Type 0} (l r : List ℕ) (S : Sect A) (a : A) {b : List ℕ} → fill (S.slots a) ≡ b → fill ((between l r S).slots a) ≡ tagged l r b

@@ -1,6 +1,6 @@
 #![tactic(auto)]
 
-ghost use Rattle.std.specs.Prelude.{◌≡◌, ◌+◌, ◌≤◌, length, take, drop};
+ghost use Rattle.std.specs.Prelude.{◌≡◌, ◌+◌, ◌≤◌, length};
 ghost use Rattle.format.specs.Slot.{fill};
 ghost use Rattle.format.specs.Number.{order_by};
 ghost use Rattle.format.specs.Edition.{digits};
@@ -62,14 +62,15 @@ fn put_counts(out: &mut [u8], k: u64, n: u64, w: usize, msf: bool) -> usize
     a + put_number_part(&mut out[a..], b"<N>", b"</N>", n, w, msf)
 }
 
-// The `len` bytes of `f` at `at`, with their number in `w` bytes before them.
-fn put_counted(out: &mut [u8], f: &[u8], at: usize, len: usize, w: usize, msf: bool) -> usize
-    requires { (at + len ≤ length f.now) × (w ≤ 8) × (w + len ≤ length out.old) }
-    ensures { (result ≡ w + len) × (Puts (counted_bytes (order_by msf) w (take len (drop at f.now))) out.old out.new result) }
+// The text `t`, with its length in `w` bytes before it.
+fn put_counted(out: &mut [u8], t: &[u8], w: usize, msf: bool) -> usize
+    requires { (w ≤ 8) × (w + length t.now ≤ length out.old) }
+    ensures { (result ≡ w + length t.now) × (Puts (counted_bytes (order_by msf) w t.now) out.old out.new result) }
 {
-    number::put_number(&mut out[..], len as u64, w, msf);
-    text::put_bytes(&mut out[w..], f, at, len);
-    w + len
+    let n = t.len();
+    number::put_number(&mut out[..], n as u64, w, msf);
+    text::put_bytes(&mut out[w..], t, 0, n);
+    w + n
 }
 
 // The same between the tags `first` and `last`.
@@ -77,42 +78,29 @@ fn put_counted_part(
     out: &mut [u8],
     first: &[u8],
     last: &[u8],
-    f: &[u8],
-    at: usize,
-    len: usize,
+    t: &[u8],
     w: usize,
     msf: bool,
 ) -> usize
-    requires { (at + len ≤ length f.now) × (w ≤ 8) × (length first.now + (w + len + length last.now) ≤ length out.old) }
-    ensures { (result ≡ length first.now + (w + len + length last.now)) × (Puts (tagged first.now last.now (counted_bytes (order_by msf) w (take len (drop at f.now)))) out.old out.new result) }
+    requires { (w ≤ 8) × (length first.now + (w + length t.now + length last.now) ≤ length out.old) }
+    ensures { (result ≡ length first.now + (w + length t.now + length last.now)) × (Puts (tagged first.now last.now (counted_bytes (order_by msf) w t.now)) out.old out.new result) }
 {
     let a = writing::put_tag(&mut out[..], first, true);
-    let b = a + put_counted(&mut out[a..], f, at, len, w, msf);
+    let b = a + put_counted(&mut out[a..], t, w, msf);
     b + writing::put_tag(&mut out[b..], last, true)
 }
 
 // The label, whose length has `w` bytes, and the stamp between their tags, and </header>.
-fn put_texts(
-    out: &mut [u8],
-    f: &[u8],
-    lat: usize,
-    llen: usize,
-    sat: usize,
-    slen: usize,
-    w: usize,
-    msf: bool,
-) -> usize
-    requires { (lat + llen ≤ length f.now) × (sat + slen ≤ length f.now) × (w ≤ 8) × (48 + (w + (llen + slen)) ≤ length out.old) }
-    ensures { (result ≡ 48 + (w + (llen + slen))) × (Puts (text_bytes (order_by msf) w (take llen (drop lat f.now)) (take slen (drop sat f.now))) out.old out.new result) }
+fn put_texts(out: &mut [u8], label: &[u8], stamp: &[u8], w: usize, msf: bool) -> usize
+    requires { (w ≤ 8) × (48 + (w + (length label.now + length stamp.now)) ≤ length out.old) }
+    ensures { (result ≡ 48 + (w + (length label.now + length stamp.now))) × (Puts (text_bytes (order_by msf) w label.now stamp.now) out.old out.new result) }
 {
-    let a = put_counted_part(&mut out[..], b"<label>", b"</label>", f, lat, llen, w, msf);
+    let a = put_counted_part(&mut out[..], b"<label>", b"</label>", label, w, msf);
     a + put_counted_part(
         &mut out[a..],
         b"<timestamp>",
         b"</timestamp></header>",
-        f,
-        sat,
-        slen,
+        stamp,
         1,
         msf,
     )
@@ -121,20 +109,17 @@ fn put_texts(
 // The header of a tagged edition.
 pub fn put_new(
     out: &mut [u8],
-    f: &[u8],
     e: Edition,
     msf: bool,
     k: u64,
     n: u64,
-    lat: usize,
-    llen: usize,
-    sat: usize,
-    slen: usize,
+    label: &[u8],
+    stamp: &[u8],
 ) -> usize
-    requires { (lat + llen ≤ length f.now) × (sat + slen ≤ length f.now) × (e.n_width ≤ 8) × (e.label_length ≤ 8) × (131 + (e.n_width + (e.label_length + (llen + slen))) ≤ length out.old) }
-    ensures { Puts (fill ((new_header e.number (order_by msf) e.n_width e.label_length e.label_max).slots (k, (n, (take llen (drop lat f.now), take slen (drop sat f.now)))))) out.old out.new result }
+    requires { (e.n_width ≤ 8) × (e.label_length ≤ 8) × (131 + (e.n_width + (e.label_length + (length label.now + length stamp.now))) ≤ length out.old) }
+    ensures { Puts (fill ((new_header e.number (order_by msf) e.n_width e.label_length e.label_max).slots (k, (n, (label.now, stamp.now))))) out.old out.new result }
 {
     let a = put_start(&mut out[..], e.number, msf);
     let b = a + put_counts(&mut out[a..], k, n, e.n_width, msf);
-    b + put_texts(&mut out[b..], f, lat, llen, sat, slen, e.label_length, msf)
+    b + put_texts(&mut out[b..], label, stamp, e.label_length, msf)
 }

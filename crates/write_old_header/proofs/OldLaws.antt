@@ -5,8 +5,7 @@ use native.Mathlib.Nat.{not-suc-le-zero}
 use native.Mathlib.Numerals.{add-one}
 use native.Mathlib.Omega.{arith}
 use mathlib.Core.List.{List, [], ◌∷◌, ◌++◌, append_assoc}
-use lib.ListN.{length, take, drop, replicate, length-take, length-drop}
-use lib.Seq.{length-take-le}
+use lib.ListN.{length, replicate}
 use Rattle.format.specs.Slot.{Slot, byte, spare, fill}
 use Rattle.format.specs.Number.{Order, num_slots}
 use Rattle.format.specs.Grammar.{text_slots}
@@ -20,13 +19,6 @@ use Rattle.write_old_header.specs.Parts.{num_bytes, old_marks}
 
 pub num_length : (o : Order) (w n : ℕ) → length (num_bytes o w n) ≡ w
 num_length o w n = length_fill (num_slots o w n) ∙ length_tab w _
-
--- the n bytes of f at p
-pub cut_length : (f : List ℕ) (p n : ℕ) → p + n ≤ length f → length (take n (drop p f)) ≡ n
-cut_length f p n h = length-take-le n (drop p f) (simp length-drop (omega arith))
-
-pub take_few : (n m : ℕ) (l : List ℕ) → n ≤ m → length (take n l) ≤ m
-take_few n m l h = simp length-take (omega arith)
 
 -- ---- the parts
 

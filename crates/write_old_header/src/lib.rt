@@ -1,6 +1,6 @@
 #![tactic(auto)]
 
-ghost use Rattle.std.specs.Prelude.{◌≡◌, ◌++◌, ◌+◌, ◌≤◌, length, take, drop};
+ghost use Rattle.std.specs.Prelude.{◌≡◌, ◌++◌, ◌+◌, ◌≤◌, length};
 ghost use Rattle.format.specs.Slot.{fill};
 ghost use Rattle.format.specs.Number.{order_by};
 ghost use Rattle.format.specs.Grammar.{text_slots};
@@ -30,13 +30,14 @@ fn put_marks(out: &mut [u8], number: u8, msf: bool) -> usize
     4
 }
 
-// The `len` bytes of `f` at `at` in a field of `w` bytes, with zeros after them.
-fn put_padded(out: &mut [u8], f: &[u8], at: usize, len: usize, w: usize) -> usize
-    requires { (at + len ≤ length f.now) × (len ≤ w) × (w ≤ length out.old) }
-    ensures { (result ≡ w) × (Puts (fill (text_slots w (take len (drop at f.now)))) out.old out.new result) }
+// The text `t` in a field of `w` bytes, with zeros after it.
+fn put_padded(out: &mut [u8], t: &[u8], w: usize) -> usize
+    requires { (length t.now ≤ w) × (w ≤ length out.old) }
+    ensures { (result ≡ w) × (Puts (fill (text_slots w t.now)) out.old out.new result) }
 {
-    text::put_bytes(&mut out[..], f, at, len);
-    text::put_zeros(&mut out[len..], w - len);
+    let n = t.len();
+    text::put_bytes(&mut out[..], t, 0, n);
+    text::put_zeros(&mut out[n..], w - n);
     w
 }
 
@@ -53,38 +54,27 @@ fn put_old_counts(out: &mut [u8], number: u8, msf: bool, k: u64, n: u64, w: usiz
 }
 
 // The label in a field of `w` bytes, and the stamp with the zero after it.
-fn put_old_texts(
-    out: &mut [u8],
-    f: &[u8],
-    lat: usize,
-    llen: usize,
-    sat: usize,
-    slen: usize,
-    w: usize,
-) -> usize
-    requires { (lat + llen ≤ length f.now) × (sat + slen ≤ length f.now) × (llen ≤ w) × (slen ≤ 17) × (w + 18 ≤ length out.old) }
-    ensures { (result ≡ w + 18) × (Puts (fill (text_slots w (take llen (drop lat f.now))) ++ fill (text_slots 18 (take slen (drop sat f.now)))) out.old out.new result) }
+fn put_old_texts(out: &mut [u8], label: &[u8], stamp: &[u8], w: usize) -> usize
+    requires { (length label.now ≤ w) × (length stamp.now ≤ 17) × (w + 18 ≤ length out.old) }
+    ensures { (result ≡ w + 18) × (Puts (fill (text_slots w label.now) ++ fill (text_slots 18 stamp.now)) out.old out.new result) }
 {
-    let a = put_padded(&mut out[..], f, lat, llen, w);
-    a + put_padded(&mut out[a..], f, sat, slen, 18)
+    let a = put_padded(&mut out[..], label, w);
+    a + put_padded(&mut out[a..], stamp, 18)
 }
 
 // The header of an untagged edition.
 pub fn put_old(
     out: &mut [u8],
-    f: &[u8],
     e: Edition,
     msf: bool,
     k: u64,
     n: u64,
-    lat: usize,
-    llen: usize,
-    sat: usize,
-    slen: usize,
+    label: &[u8],
+    stamp: &[u8],
 ) -> usize
-    requires { (lat + llen ≤ length f.now) × (sat + slen ≤ length f.now) × (llen ≤ e.label_max) × (slen ≤ 17) × (e.n_width ≤ 8) × (25 + (e.n_width + e.label_max) ≤ length out.old) }
-    ensures { Puts (fill ((old_header e.number (order_by msf) e.n_width e.label_max).slots (k, (n, (take llen (drop lat f.now), take slen (drop sat f.now)))))) out.old out.new result }
+    requires { (length label.now ≤ e.label_max) × (length stamp.now ≤ 17) × (e.n_width ≤ 8) × (25 + (e.n_width + e.label_max) ≤ length out.old) }
+    ensures { Puts (fill ((old_header e.number (order_by msf) e.n_width e.label_max).slots (k, (n, (label.now, stamp.now))))) out.old out.new result }
 {
     let a = put_old_counts(&mut out[..], e.number, msf, k, n, e.n_width);
-    a + put_old_texts(&mut out[a..], f, lat, llen, sat, slen, e.label_max + 1)
+    a + put_old_texts(&mut out[a..], label, stamp, e.label_max + 1)
 }

@@ -5,23 +5,15 @@ ghost use Rattle.format.specs.Number.{order_by};
 ghost use Rattle.format.specs.Dta.{dataset_of};
 ghost use Rattle.editions.specs.Editions.{numbers_of};
 ghost use Rattle.writing.specs.Writes.{Puts};
-ghost use Rattle.sources.specs.Sources.{Opened, Sourced, Holding};
+ghost use Rattle.sources.specs.Sources.{Sourced, Holding};
 ghost use Rattle.sources.specs.Parts.{rows_to, longs_to, blocks_to};
 
 use editions::Edition;
 use sources::Source;
 
 // Puts the data of the source `s`, as the edition `to` has it, at the start of `out`; gives how many bytes.
-pub fn data_part(
-    out: &mut [u8],
-    f: &[u8],
-    s: Source,
-    e: Edition,
-    msf: bool,
-    to: Edition,
-    tomsf: bool,
-) -> usize
-    requires { (Opened f.now e msf) × (Sourced f.now s) × (Holding f.now to (order_by tomsf)) × (length (rows_to (numbers_of to) (order_by tomsf) (dataset_of f.now)) ≤ length out.old) }
+pub fn data_part(out: &mut [u8], f: &[u8], s: Source, to: Edition, tomsf: bool) -> usize
+    requires { (Sourced f.now s) × (Holding f.now to (order_by tomsf)) × (length (rows_to (numbers_of to) (order_by tomsf) (dataset_of f.now)) ≤ length out.old) }
     ensures { Puts (rows_to (numbers_of to) (order_by tomsf) (dataset_of f.now)) out.old out.new result }
 {
     let g = write_data::Source {
@@ -29,33 +21,22 @@ pub fn data_part(
         n: s.n,
         types: s.types,
         k: s.k,
-        tagged: e.tagged,
-        msf,
-        vwidth: e.v_width,
-        owidth: e.o_width,
+        tagged: s.edition.tagged,
+        msf: s.msf,
+        vwidth: s.edition.v_width,
+        owidth: s.edition.o_width,
     };
-    let v = to.v_width;
-    let x = to.o_width;
     let a = writing::put_tag(&mut out[..], b"<data>", to.tagged);
-    let b = a + write_data::put_rows(&mut out[a..], f, g, tomsf, v, x);
+    let b = a + write_data::put_rows(&mut out[a..], f, g, tomsf, to.v_width, to.o_width);
     b + writing::put_tag(&mut out[b..], b"</data>", to.tagged)
 }
 
 // Puts the long strings.
-pub fn strl_part(
-    out: &mut [u8],
-    f: &[u8],
-    s: Source,
-    e: Edition,
-    msf: bool,
-    to: Edition,
-    tomsf: bool,
-) -> usize
-    requires { (Opened f.now e msf) × (Sourced f.now s) × (Holding f.now to (order_by tomsf)) × (length (longs_to (numbers_of to) (order_by tomsf) (dataset_of f.now)) ≤ length out.old) }
+pub fn strl_part(out: &mut [u8], f: &[u8], s: Source, to: Edition, tomsf: bool) -> usize
+    requires { (Sourced f.now s) × (Holding f.now to (order_by tomsf)) × (length (longs_to (numbers_of to) (order_by tomsf) (dataset_of f.now)) ≤ length out.old) }
     ensures { Puts (longs_to (numbers_of to) (order_by tomsf) (dataset_of f.now)) out.old out.new result }
 {
-    let w = e.record_width;
-    let x = to.record_width;
+    let e = s.edition;
     let a = writing::put_tag(&mut out[..], b"<strls>", to.tagged);
     let b = a
         + write_strls::put_records(
@@ -64,29 +45,20 @@ pub fn strl_part(
             s.longs,
             s.longsend,
             e.tagged,
-            msf,
-            w,
+            s.msf,
+            e.record_width,
             tomsf,
-            x,
+            to.record_width,
         );
     b + writing::put_tag(&mut out[b..], b"</strls>", to.tagged)
 }
 
 // Puts the label blocks, and the end of the file.
-pub fn label_part(
-    out: &mut [u8],
-    f: &[u8],
-    s: Source,
-    e: Edition,
-    msf: bool,
-    to: Edition,
-    tomsf: bool,
-) -> usize
-    requires { (Opened f.now e msf) × (Sourced f.now s) × (Holding f.now to (order_by tomsf)) × (length (blocks_to (numbers_of to) (order_by tomsf) (dataset_of f.now)) ≤ length out.old) }
+pub fn label_part(out: &mut [u8], f: &[u8], s: Source, to: Edition, tomsf: bool) -> usize
+    requires { (Sourced f.now s) × (Holding f.now to (order_by tomsf)) × (length (blocks_to (numbers_of to) (order_by tomsf) (dataset_of f.now)) ≤ length out.old) }
     ensures { Puts (blocks_to (numbers_of to) (order_by tomsf) (dataset_of f.now)) out.old out.new result }
 {
-    let w = e.name_width;
-    let x = to.name_width;
+    let e = s.edition;
     let t = to.tagged;
     let a = writing::put_tag(&mut out[..], b"<value_labels>", t);
     let b = a
@@ -96,10 +68,10 @@ pub fn label_part(
             s.blocks,
             s.blocksend,
             e.tagged,
-            w,
-            msf,
+            e.name_width,
+            s.msf,
             t,
-            x,
+            to.name_width,
             tomsf,
         );
     b + writing::put_tag(&mut out[b..], b"</value_labels></stata_dta>", t)

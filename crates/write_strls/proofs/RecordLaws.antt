@@ -8,7 +8,7 @@ use lib.ListN.{length, take, drop, length-append}
 use lib.Seq.{drop-cons}
 use Rattle.format.specs.Slot.{Slot, byte, Fits, fill}
 use Rattle.format.specs.Number.{Order, num, num_slots}
-use Rattle.format.specs.Grammar.{Sect, tag, all_slots, sizes}
+use Rattle.format.specs.Grammar.{tag}
 use Rattle.format.specs.Edition.{t_gso}
 use Rattle.format.specs.Data.{LongString, long_head, long_record}
 use Rattle.format.proofs.SlotLaws.{fits_bound, fits_left, fits_right, fits_after, length_tab, length_fill}

@@ -2,10 +2,10 @@
 use mathlib.Core.Path.{◌≡◌, refl, sym, ap, ◌∙◌, subst}
 use Prim.Native.Nat.{ℕ, ◌+◌, ◌-◌, ◌≤◌, ◌<◌}
 use native.Mathlib.Omega.{arith}
-use mathlib.Core.List.{List, [], ◌∷◌, ◌++◌, append_assoc, append-nil}
+use mathlib.Core.List.{List, [], ◌++◌, append_assoc, append-nil}
 use borrow.Rule.Slice.PartMut.{put_mid}
 use lib.ListN.{length, take, drop}
-use Rattle.format.specs.Slot.{Fits, fill}
+use Rattle.format.specs.Slot.{fill}
 use Rattle.format.specs.Grammar.{Sect, all_slots, sizes}
 use Rattle.format.proofs.Good.{Good}
 use Rattle.format.proofs.WriteLaws.{fill_all}

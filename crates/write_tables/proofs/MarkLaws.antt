@@ -1,21 +1,24 @@
 -- Numbers put one by one, marks at the offsets, and the sweep that keeps the live bytes.
 use mathlib.Core.Path.{◌≡◌, refl, sym, ap, ◌∙◌}
-use mathlib.Core.List.{List, ◌∷◌, ◌++◌}
+use mathlib.Core.List.{List, [], ◌∷◌, ◌++◌}
 use mathlib.Core.Bool.{Bool, true, false, cond, not, ◌&&◌, ◌||◌}
-use Prim.Native.Nat.{ℕ, zero, suc, ◌+◌, ◌-◌, ◌*◌, ◌<◌}
-use native.Mathlib.Nat.{add-zero, zero-add, sub-zero, not-suc-le-zero}
+use Prim.Native.Nat.{ℕ, zero, suc, ◌+◌, ◌-◌, ◌*◌, ◌<◌, ◌≤◌}
+use native.Mathlib.Nat.{not-suc-le-zero}
 use native.Mathlib.Omega.{arith}
 use native.Mathlib.Numerals.{add-one}
-use lib.ListN.{length, drop, set, get_or, replicate, length-replicate}
-use lib.Seq.{ext_get_or, drop_at, get_or-set_same, get_or-set_other}
+use lib.ListN.{length, take, drop, set, get_or, replicate, length-replicate}
+use lib.Seq.{drop-cons, ext_get_or, drop_at, get_or-set_same, get_or-set_other}
 use lib.Dec.{eqb}
+use Rattle.std.proofs.lemmas.List.{get_or_at}
+use borrow.Rule.Slice.PartMut.{put_mid}
 use borrow.Author.Tests.{eqb-true, eqb-false, eq-eqb}
 use Rattle.format.specs.Slot.{fill}
 use Rattle.format.specs.Number.{Order, num, num_slots, tab}
 use Rattle.format.specs.Grammar.{member, live, masked, read_times, all_slots, number}
 use Rattle.format.proofs.SlotLaws.{length_tab, get_d_tab}
 use Rattle.format.proofs.AreaLaws.{or_right}
-use Rattle.format.proofs.WriteLaws.{fill_append}
+use Rattle.text.proofs.Lay.{Laid, laid_byte, laid_as}
+use Rattle.write_texts.proofs.TimesLaws.{put_turn}
 use Rattle.write_tables.specs.Tables.{marked, live_by, swept, Marks}
 
 left : (n i : ℕ) → i < n → n - i ≡ suc (n - (i + 1))
@@ -23,58 +26,62 @@ left n i b = omega arith
 
 -- ---- numbers
 
-pub fill_wide : (o : Order) (n : ℕ) → length (fill (num_slots o 4 n)) ≡ 4
-fill_wide o n = refl
-
 module _ (o z : Order) (f : List ℕ) where
   -- what is put for n numbers at q
   abbrev pub numbers_fill : ℕ → ℕ → List ℕ
   numbers_fill n q = fill (all_slots (number z 4) (read_times (number o 4) n f q))
 
-  module _ (n i p : ℕ) (b : i < n) where
-    step : p + i * 4 + 4 ≡ p + (i + 1) * 4
-    step = omega arith
-
-    pub numbers_turn : (x : ℕ) → x ≡ num o 4 f (p + i * 4) → numbers_fill (n - i) (p + i * 4) ≡ fill (num_slots z 4 x) ++ numbers_fill (n - (i + 1)) (p + (i + 1) * 4)
-    numbers_turn x e =
-        rw (left n i b, e)
-        (fill_append (num_slots z 4 (num o 4 f (p + i * 4))) (all_slots (number z 4) (read_times (number o 4) (n - (i + 1)) f (p + i * 4 + 4)))
-        ∙ ap (λ (q : ℕ). fill (num_slots z 4 (num o 4 f (p + i * 4))) ++ numbers_fill (n - (i + 1)) q) step)
+  -- one more
+  pub numbers_turn : {d v : List ℕ} (n i p x : ℕ) → Laid (numbers_fill i p) (i * 4) d v → i < n → n * 4 ≤ length d → x ≡ num o 4 f (p + i * 4) → (g : List ℕ)
+      → g ≡ fill (num_slots z 4 x) ++ drop 4 (take (length v - i * 4) (drop (i * 4) v))
+      → Laid (numbers_fill (i + 1) p) ((i + 1) * 4) d (put_mid (i * 4) (length v - i * 4) v g)
+  numbers_turn n i p x l b room e g h =
+      put_turn (number o 4) 4 (λ a. refl) f (number z 4) 4 (λ a. refl) p i n l b room g (rw e at h)
 
 -- ---- the sweep
 
-tab_ext : {s t : ℕ → ℕ} (n : ℕ) → ((i : ℕ) → s i ≡ t i) → tab n s ≡ tab n t
-tab_ext zero h = refl
-tab_ext {s = s} {t = t} (suc n) h = ap (λ (x : ℕ). x ∷ tab n (λ i. s (suc i))) (h zero) ∙ ap (λ (l : List ℕ). t zero ∷ l) (tab_ext n (λ i. h (suc i)))
-
-pub tab_turn : (s : ℕ → ℕ) (n j : ℕ) → j < n → tab (n - j) (λ i. s (j + i)) ≡ s j ∷ tab (n - (j + 1)) (λ i. s (j + 1 + i))
-tab_turn s n j h = rw (left n j h, add-zero j) (ap (λ (l : List ℕ). s j ∷ l) (tab_ext (n - (j + 1)) (λ i. ap s (same i))))
-  where
-    same : (i : ℕ) → j + suc i ≡ j + 1 + i
-    same i = omega arith
-
-pub tab_start : (s : ℕ → ℕ) (n : ℕ) → tab n s ≡ tab (n - 0) (λ i. s (0 + i))
-tab_start s n = rw sub-zero (tab_ext {s = s} {t = λ i. s (0 + i)} n (λ i. ap s (sym (zero-add i))))
+tab_more : (s : ℕ → ℕ) (n : ℕ) → tab n s ++ s n ∷ [] ≡ tab (suc n) s
+tab_more s zero = refl
+tab_more s (suc n) = ap (λ (l : List ℕ). s zero ∷ l) (tab_more (λ i. s (suc i)) n)
 
 -- a live place with no zero in it came before
 abbrev pub carry : (ℕ → Bool) → (ℕ → ℕ) → ℕ → Bool
 carry m a zero = false
 carry m a (suc j) = live_by m a j && not (eqb (a j) 0)
 
-pub or_false : (a : Bool) → (a || false) ≡ a
+or_false : (a : Bool) → (a || false) ≡ a
 or_false true = refl
 or_false false = refl
 
-pub live_is : (m : ℕ → Bool) (a : ℕ → ℕ) (j : ℕ) → live_by m a j ≡ (m j || carry m a j)
+live_is : (m : ℕ → Bool) (a : ℕ → ℕ) (j : ℕ) → live_by m a j ≡ (m j || carry m a j)
 live_is m a zero = sym (or_false (m zero))
 live_is m a (suc j) = refl
 
-pub carry_next : (m : ℕ → Bool) (a : ℕ → ℕ) (j : ℕ) → not (eqb (cond (live_by m a j) (a j) 0) 0) ≡ carry m a (j + 1)
+carry_next : (m : ℕ → Bool) (a : ℕ → ℕ) (j : ℕ) → not (eqb (cond (live_by m a j) (a j) 0) 0) ≡ carry m a (j + 1)
 carry_next m a j = rw add-one (go (live_by m a j))
   where
     go : (t : Bool) → not (eqb (cond t (a j) 0) 0) ≡ (t && not (eqb (a j) 0))
     go true = refl
     go false = refl
+
+-- what stands next is as it was
+laid_at : {t d w : List ℕ} {n : ℕ} → Laid t n d w → n < length d → get_or w n 0 ≡ get_or d n 0
+laid_at {t} {d} {w} {n} l h = rw (l.is, drop-cons d n 0) (get_or_at t (get_or d n 0) (drop (suc n) d) 0 n l.long)
+
+module _ (d f : List ℕ) (t j : ℕ) {w : List ℕ} (on : Bool) where
+  -- one byte more
+  pub sweep_turn : on ≡ carry (marked d) (λ i. get_or f (t + i) 0) j → Laid (swept d f t j) j d w → j < length d → (b : Bool) → b ≡ (marked w j || on)
+      → (x : ℕ) → x ≡ cond b (get_or f (t + j) 0) 0
+      → (not (eqb x 0) ≡ carry (marked d) (λ i. get_or f (t + i) 0) (j + 1)) × Laid (swept d f t (j + 1)) (j + 1) d (set w j x)
+  sweep_turn c l h b e x g =
+      let m = marked d in
+      let raw : ℕ → ℕ = λ i. get_or f (t + i) 0 in
+      let said : ℕ → ℕ = λ i. cond (live_by m raw i) (raw i) 0 in
+      let live : b ≡ live_by m raw j = e ∙ rw (laid_at l h, c) (sym (live_is m raw j)) in
+      let v : x ≡ said j = g ∙ rw live refl in (
+        rw v (carry_next m raw j),
+        laid_as (laid_byte l x h) (rw (v, add-one) (tab_more said j)) refl,
+      )
 
 -- ---- marks
 
@@ -84,7 +91,9 @@ module _ (o : Order) (f : List ℕ) (n i p : ℕ) (b : i < n) where
   offs_from k = read_times (number o 4) (n - k) f (p + k * 4)
 
   offs_turn : offs_from i ≡ num o 4 f (p + i * 4) ∷ offs_from (i + 1)
-  offs_turn = rw (left n i b) (ap (λ (q : ℕ). num o 4 f (p + i * 4) ∷ read_times (number o 4) (n - (i + 1)) f q) (step o o f n i p b))
+  offs_turn =
+      let step : p + i * 4 + 4 ≡ p + (i + 1) * 4 = omega arith in
+      rw (left n i b) (ap (λ (q : ℕ). num o 4 f (p + i * 4) ∷ read_times (number o 4) (n - (i + 1)) f q) step)
 
   module _ (m : ℕ) (u : (j : ℕ) → member j (offs_from i) ≡ true → j < m) where
     pub marks_fit : num o 4 f (p + i * 4) < m

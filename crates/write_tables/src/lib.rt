@@ -11,11 +11,9 @@ fn put_numbers(out: &mut [u8], f: &[u8], p: usize, n: usize, msf: bool, to: bool
     requires { (p + n * 4 ≤ length f.now) × (n * 4 ≤ length out.old) }
     ensures { out.new ≡ fill (all_slots (number (order_by to) 4) (read_times (number (order_by msf) 4) n f.now p)) ++ drop (n * 4) out.old }
 {
-    let mut i: usize = 0;
-    while i < n {
+    for i in 0..n {
         let x = number::number(f, p + i * 4, 4, msf);
         number::put_number(&mut out[i * 4..], x, 4, to);
-        i += 1;
     }
 }
 
@@ -24,7 +22,7 @@ fn put_counts(out: &mut [u8], n: usize, m: usize, to: bool)
     requires { 8 ≤ length out.old }
     ensures { out.new ≡ (fill (num_slots (order_by to) 4 n) ++ fill (num_slots (order_by to) 4 m)) ++ drop 8 out.old }
 {
-    number::put_number(&mut out[0..], n as u64, 4, to);
+    number::put_number(&mut out[..], n as u64, 4, to);
     number::put_number(&mut out[4..], m as u64, 4, to);
 }
 
@@ -33,7 +31,7 @@ fn put_entries(out: &mut [u8], f: &[u8], p: usize, n: usize, msf: bool, to: bool
     requires { (p + (n * 4 + n * 4) ≤ length f.now) × (n * 4 + n * 4 ≤ length out.old) }
     ensures { out.new ≡ (fill (all_slots (number (order_by to) 4) (read_times (number (order_by msf) 4) n f.now p)) ++ fill (all_slots (number (order_by to) 4) (read_times (number (order_by msf) 4) n f.now (p + n * 4)))) ++ drop (n * 4 + n * 4) out.old }
 {
-    put_numbers(&mut out[0..], f, p, n, msf, to);
+    put_numbers(&mut out[..], f, p, n, msf, to);
     let v = n * 4;
     put_numbers(&mut out[v..], f, p + v, n, msf, to);
 }
@@ -43,47 +41,24 @@ fn put_marks(out: &mut [u8], f: &[u8], p: usize, n: usize, m: usize, msf: bool)
     requires { (p + n * 4 ≤ length f.now) × (m ≤ length out.old) × ((j : ℕ) → member j (read_times (number (order_by msf) 4) n f.now p) ≡ true → j < m) }
     ensures { Marks (read_times (number (order_by msf) 4) n f.now p) m out.old out.new }
 {
-    let mut i: usize = 0;
-    while i < n {
+    for i in 0..n {
         let x = number::number(f, p + i * 4, 4, msf) as usize;
         out[x] = 1;
-        i += 1;
     }
 }
 
-// Whether a place is live: it is marked, or the one before it carries on.
-fn lives(mark: u8, on: bool) -> bool
-    ensures { result ≡ (not (eqb mark 0) || on) }
-{
-    if mark != 0 { true } else { on }
-}
-
-// The byte of a live place, 0 of a dead one.
-fn kept(live: bool, b: u8) -> u8
-    ensures { result ≡ cond live b 0 }
-{
-    if live { b } else { 0 }
-}
-
-// Whether a byte is not zero.
-fn some(b: u8) -> bool
-    ensures { result ≡ not (eqb b 0) }
-{
-    b != 0
-}
-
-// Puts the live bytes of the text of `m` bytes at `t`, and zeros for its dead ones, over the marks that stand in `out`.
+// Puts the live bytes of the text of `m` bytes at `t`, and zeros for its dead ones, over the marks that stand in `out`. A byte is live
+// that is marked, or that follows a live one that is not zero.
 fn sweep(out: &mut [u8], f: &[u8], t: usize, m: usize)
     requires { (t + m ≤ length f.now) × (m ≤ length out.old) }
     ensures { out.new ≡ swept out.old f.now t m ++ drop m out.old }
 {
     let mut on = false;
-    let mut j: usize = 0;
-    while j < m {
-        let x = kept(lives(out[j], on), f[t + j]);
+    for j in 0..m {
+        let live = out[j] != 0 || on;
+        let x = if live { f[t + j] } else { 0 };
         out[j] = x;
-        on = some(x);
-        j += 1;
+        on = x != 0;
     }
 }
 
@@ -110,9 +85,10 @@ pub fn put_table(
     requires { TableRoom (order_by msf) f.now p n m (length out.old) }
     ensures { PutsTable (order_by msf) (order_by to) f.now p n m out.old out.new result }
 {
-    put_counts(&mut out[0..], n, m, to);
-    put_entries(&mut out[8..], f, p + 8, n, msf, to);
+    let q = p + 8;
+    put_counts(&mut out[..], n, m, to);
+    put_entries(&mut out[8..], f, q, n, msf, to);
     let a = 8 + n * 4 + n * 4;
-    put_area(&mut out[a..], f, p + 8, n, p + a, m, msf);
+    put_area(&mut out[a..], f, q, n, p + a, m, msf);
     a + m
 }

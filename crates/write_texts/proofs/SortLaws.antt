@@ -3,7 +3,7 @@ use mathlib.Core.Path.{◌≡◌, refl, sym, ap, ◌∙◌}
 use Prim.Native.Nat.{ℕ, suc, ◌+◌, ◌-◌, ◌*◌, ◌≤◌, ◌<◌}
 use native.Mathlib.Nat.{sub-zero, add-zero}
 use native.Mathlib.Omega.{arith}
-use mathlib.Core.List.{List, [], ◌∷◌, ◌++◌, append_assoc, append-nil}
+use mathlib.Core.List.{List, [], ◌∷◌, ◌++◌, append_assoc}
 use borrow.Author.Tests.{ne_eqb}
 use borrow.Rule.Slice.PartMut.{put_mid}
 use lib.ListN.{length, take, drop, replicate, length-replicate}
@@ -56,12 +56,6 @@ module _ (o z : Order) (f : List ℕ) where
     sort_none d = record { front = []; laid = laid_none d; whole = rw (sub-zero, add-zero) refl }
 
     module _ {i : ℕ} {d w : List ℕ} (s : Sorting i d w) where
-      -- all of them
-      pub sort_all : i ≡ n → Puts (sort_rest n p) d w (n * 2)
-      sort_all h =
-          let y : n - i ≡ 0 = omega arith in
-          puts_of (laid_as s.laid (sym (append-nil s.front) ∙ ap (λ (k : ℕ). s.front ++ sort_rest k (p + i * 2)) (sym y) ∙ s.whole) (ap (λ (k : ℕ). k * 2) h))
-
       module _ (b : i < n) (room : n * 2 ≤ length d) (x : ℕ) (e : x ≡ num o 2 f (p + i * 2)) (g : List ℕ) where
         -- one more
         pub sort_turn : (x ≡ 0 → ⊥) → g ≡ fill (num_slots z 2 x) ++ drop 2 (take (length w - i * 2) (drop (i * 2) w))

@@ -12,8 +12,7 @@ use Rattle.format.specs.Grammar.{text, text_at, text_slots, read_times, all_slot
 use Rattle.format.specs.Dta.{all_shorter}
 use Rattle.format.proofs.Good.{text_length}
 use Rattle.text.proofs.Lay.{Laid}
-use Rattle.writing.specs.Writes.{Puts}
-use Rattle.write_texts.proofs.TimesLaws.{all_more, all_at, all_stop, put_none, put_turn, put_all}
+use Rattle.write_texts.proofs.TimesLaws.{all_more, all_at, all_stop, put_turn}
 
 module _ (w to : ℕ) (f : List ℕ) (p : ℕ) where
   abbrev pub texts : ℕ → List (List ℕ)
@@ -36,13 +35,7 @@ module _ (w to : ℕ) (f : List ℕ) (p : ℕ) where
   abbrev pub put_texts : ℕ → List ℕ
   put_texts i = fill (all_slots (text to 7) (texts i))
 
-  pub texts_none : (d : List ℕ) → Laid (put_texts 0) (0 * to) d d
-  texts_none d = put_none (text w 7) w (λ t. refl) f (text to 7) to (text_length to) p d
-
   pub texts_turn : {d v : List ℕ} (i k : ℕ) → Laid (put_texts i) (i * to) d v → i < k → k * to ≤ length d → (g : List ℕ)
       → g ≡ fill (text_slots to (text_at w f (p + i * w))) ++ drop to (take (length v - i * to) (drop (i * to) v))
       → Laid (put_texts (i + 1)) ((i + 1) * to) d (put_mid (i * to) (length v - i * to) v g)
   texts_turn i k l b room g h = put_turn (text w 7) w (λ t. refl) f (text to 7) to (text_length to) p i k l b room g h
-
-  pub texts_all : {d v : List ℕ} (i k : ℕ) → Laid (put_texts i) (i * to) d v → i ≡ k → Puts (put_texts k) d v (k * to)
-  texts_all i k l e = put_all (text w 7) w (λ t. refl) f (text to 7) to (text_length to) p i k l e

@@ -13,7 +13,7 @@ use Rattle.format.specs.Grammar.{Sect, all_slots, read_times}
 use Rattle.format.proofs.SlotLaws.{length_fill}
 use Rattle.format.proofs.Good.{and_left, and_right}
 use Rattle.format.proofs.WriteLaws.{fill_append}
-use Rattle.text.proofs.Lay.{Laid, laid_none, laid_part, laid_as}
+use Rattle.text.proofs.Lay.{Laid, laid_part, laid_as}
 use Rattle.writing.specs.Writes.{Puts}
 use Rattle.writing.proofs.Chain.{puts_of}
 
@@ -83,10 +83,6 @@ module _ {A : Type 0} (S : Sect A) (w : ℕ) (wide : (a : A) → S.size a ≡ w)
     put_more i =
         sym (slots_more (read_times S i f p) (S.read f (p + i * w)))
         ∙ ap (λ (l : List A). fill (all_slots T l)) (sym (reads_more i p) ∙ ap (λ (n : ℕ). read_times S n f p) (sym (add-one i)))
-
-    -- none
-    pub put_none : (d : List ℕ) → Laid (put_times 0) (0 * to) d d
-    put_none d = laid_as (laid_none d) refl (sym (zero-mul to))
 
     -- one more
     pub put_turn : {d v : List ℕ} (i k : ℕ) → Laid (put_times i) (i * to) d v → i < k → k * to ≤ length d → (g : List ℕ)

@@ -12,12 +12,10 @@ pub fn texts_held(f: &[u8], p: usize, k: usize, w: usize, to: usize) -> bool
     requires { p + k * w ≤ length f.now }
     ensures { result ≡ all_shorter to (read_times (text w 7) k f.now p) }
 {
-    let mut i: usize = 0;
-    while i < k {
+    for i in 0..k {
         if to <= text::text_len(f, p + i * w, w) {
             return false;
         }
-        i += 1;
     }
     true
 }
@@ -27,10 +25,8 @@ pub fn put_texts(out: &mut [u8], f: &[u8], p: usize, k: usize, w: usize, to: usi
     requires { (p + k * w ≤ length f.now) × (k * to ≤ length out.old) × (all_shorter to (read_times (text w 7) k f.now p) ≡ true) }
     ensures { Puts (fill (all_slots (text to 7) (read_times (text w 7) k f.now p))) out.old out.new result }
 {
-    let mut i: usize = 0;
-    while i < k {
+    for i in 0..k {
         text::put_text(&mut out[i * to..], f, p + i * w, w, to);
-        i += 1;
     }
     k * to
 }
@@ -40,15 +36,13 @@ pub fn put_sort(out: &mut [u8], f: &[u8], p: usize, n: usize, msf: bool, to: boo
     requires { (p + n * 2 ≤ length f.now) × (n * 2 ≤ length out.old) }
     ensures { Puts (fill (ended_slots (order_by to) 2 n (ended_at (order_by msf) 2 n f.now p))) out.old out.new result }
 {
-    let mut i: usize = 0;
-    while i < n {
+    for i in 0..n {
         let x = number::number(f, p + i * 2, 2, msf);
         if x == 0 {
             text::put_zeros(&mut out[i * 2..], (n - i) * 2);
             return n * 2;
         }
         number::put_number(&mut out[i * 2..], x, 2, to);
-        i += 1;
     }
     n * 2
 }

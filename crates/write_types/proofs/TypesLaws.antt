@@ -2,79 +2,23 @@
 use mathlib.Core.Path.{◌≡◌, refl, sym, ap, ◌∙◌}
 use Prim.Native.Nat.{ℕ, ◌+◌, ◌-◌, ◌*◌, ◌≤◌, ◌<◌}
 use mathlib.Core.List.{List, ◌++◌}
-use mathlib.Core.Bool.{Bool, true, false, cond, ◌&&◌}
+use mathlib.Core.Bool.{Bool, true, false}
 use borrow.Rule.Slice.PartMut.{put_mid}
-use borrow.Author.Tests.{le-leb, lt-leb}
 use lib.ListN.{length, take, drop}
-use lib.Dec.{leb}
 use Rattle.format.specs.Slot.{fill}
 use Rattle.format.specs.Number.{Order, num_slots}
 use Rattle.format.specs.Grammar.{read_times, all_slots}
-use Rattle.format.specs.Edition.{code_width, text_max}
-use Rattle.format.specs.Variables.{VarType, byte_type, int_type, long_type, float_type, double_type, code_of, has_type, type_code}
+use Rattle.format.specs.Edition.{code_width}
+use Rattle.format.specs.Variables.{VarType, code_of, has_type, type_code}
 use Rattle.format.specs.Dta.{all_types}
 use Rattle.format.proofs.SlotLaws.{length_tab}
-use Rattle.codes.specs.declared.Kind.{Kind}
-use Rattle.codes.specs.declared.Kind.TheVariants.{Text, Byte, Int, Long, Float, Double}
 use Rattle.codes.specs.declared.Field.{Field}
 use Rattle.codes.specs.Fields.{type_of}
 use Rattle.codes.proofs.Laws.{type_back}
 use Rattle.data.specs.Places.{field_at, Typed}
 use Rattle.data.proofs.PlaceLaws.{type_at, field_type}
 use Rattle.text.proofs.Lay.{Laid}
-use Rattle.writing.specs.Writes.{Puts}
-use Rattle.write_texts.proofs.TimesLaws.{all_more, all_stop, put_none, put_turn, put_all}
-
--- ---- the codes of the numeric types, by the kind of their cells
-
-module _ (t : Bool) (k : Kind) (w r : ℕ) where
-  pub byte_code : k ≡ Byte → r ≡ cond t 65530 251 → r ≡ code_of t (type_of k w)
-  byte_code e h = h ∙ numeric t ∙ ap (λ (z : Kind). code_of t (type_of z w)) (sym e)
-    where
-      numeric : (b : Bool) → cond b 65530 251 ≡ code_of b byte_type
-      numeric true = refl
-      numeric false = refl
-
-  pub int_code : k ≡ Int → r ≡ cond t 65529 252 → r ≡ code_of t (type_of k w)
-  int_code e h = h ∙ numeric t ∙ ap (λ (z : Kind). code_of t (type_of z w)) (sym e)
-    where
-      numeric : (b : Bool) → cond b 65529 252 ≡ code_of b int_type
-      numeric true = refl
-      numeric false = refl
-
-  pub long_code : k ≡ Long → r ≡ cond t 65528 253 → r ≡ code_of t (type_of k w)
-  long_code e h = h ∙ numeric t ∙ ap (λ (z : Kind). code_of t (type_of z w)) (sym e)
-    where
-      numeric : (b : Bool) → cond b 65528 253 ≡ code_of b long_type
-      numeric true = refl
-      numeric false = refl
-
-  pub float_code : k ≡ Float → r ≡ cond t 65527 254 → r ≡ code_of t (type_of k w)
-  float_code e h = h ∙ numeric t ∙ ap (λ (z : Kind). code_of t (type_of z w)) (sym e)
-    where
-      numeric : (b : Bool) → cond b 65527 254 ≡ code_of b float_type
-      numeric true = refl
-      numeric false = refl
-
-  pub double_code : k ≡ Double → r ≡ cond t 65526 255 → r ≡ code_of t (type_of k w)
-  double_code e h = h ∙ numeric t ∙ ap (λ (z : Kind). code_of t (type_of z w)) (sym e)
-    where
-      numeric : (b : Bool) → cond b 65526 255 ≡ code_of b double_type
-      numeric true = refl
-      numeric false = refl
-
--- ---- the widths of texts
-
-pub no_text : (t : Bool) (w : ℕ) → w < 1 → (leb 1 w && leb w (text_max t)) ≡ false
-no_text t w h = rw (lt-leb 1 w h)
-
-pub some_text : (t b : Bool) (w : ℕ) → 1 ≤ w → t ≡ b → leb w (text_max b) ≡ (leb 1 w && leb w (text_max t))
-some_text t b w h e = rw (le-leb 1 w h, e)
-
-pub text_has : (t : Bool) (k : Kind) (w : ℕ) (r : Bool) → k ≡ Text → r ≡ (leb 1 w && leb w (text_max t)) → r ≡ has_type t (type_of k w)
-text_has t k w r e h = h ∙ ap (λ (z : Kind). has_type t (type_of z w)) (sym e)
-
--- ---- a type code
+use Rattle.write_texts.proofs.TimesLaws.{all_more, all_stop, put_turn}
 
 code_size : (t : Bool) (o : Order) (x : VarType) → (type_code t o).size x ≡ code_width t
 unfolding type_code
@@ -119,9 +63,6 @@ module _ (t : Bool) (o : Order) (f : List ℕ) (p : ℕ) where
 
     -- in w bytes each
     module _ (q : Order) (w : ℕ) (wide : w ≡ code_width z) where
-      pub types_none : (d : List ℕ) → Laid (put_types q 0) (0 * w) d d
-      types_none d = put_none (type_code t o) (code_width t) (code_size t o) f (type_code z q) w (code_long z q w wide) p d
-
       pub types_turn : {d v : List ℕ} (k i : ℕ) → Typed t o f p k → i < k → (x : Field) → x ≡ field_at t o f p i
           → (c : ℕ) → c ≡ code_of z (type_of x.kind x.width) → Laid (put_types q i) (i * w) d v → k * w ≤ length d → (g : List ℕ)
           → g ≡ fill (num_slots q w c) ++ drop w (take (length v - i * w) (drop (i * w) v))
@@ -130,6 +71,3 @@ module _ (t : Bool) (o : Order) (f : List ℕ) (p : ℕ) where
           let a = code_put z q w c ((type_code t o).read f (p + i * code_width t)) wide (h ∙ ap (code_of z) (type_is k i T b x e)) in
           put_turn (type_code t o) (code_width t) (code_size t o) f (type_code z q) w (code_long z q w wide) p i k l b room g
           (r ∙ ap (λ (y : List ℕ). y ++ drop w (take (length v - i * w) (drop (i * w) v))) a)
-
-      pub types_all : {d v : List ℕ} (i k : ℕ) → Laid (put_types q i) (i * w) d v → i ≡ k → Puts (put_types q k) d v (k * w)
-      types_all i k l e = put_all (type_code t o) (code_width t) (code_size t o) f (type_code z q) w (code_long z q w wide) p i k l e

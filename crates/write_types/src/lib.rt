@@ -13,13 +13,6 @@ ghost use Rattle.writing.specs.Writes.{Puts};
 
 use codes::Kind;
 
-// `x` where `b` holds, else `y`.
-fn choose(b: bool, x: u64, y: u64) -> u64
-    ensures { result ≡ cond b x y }
-{
-    if b { x } else { y }
-}
-
 // The code of a type, by the kind and the width of its cells.
 fn code_of(tagged: bool, kind: Kind, width: usize) -> u64
     ensures { result ≡ code_of tagged (type_of kind width) }
@@ -27,23 +20,13 @@ fn code_of(tagged: bool, kind: Kind, width: usize) -> u64
     match kind {
         Kind::Text => width as u64,
         Kind::StrL => 32768,
-        Kind::Byte => choose(tagged, 65530, 251),
-        Kind::Int => choose(tagged, 65529, 252),
-        Kind::Long => choose(tagged, 65528, 253),
-        Kind::Float => choose(tagged, 65527, 254),
-        Kind::Double => choose(tagged, 65526, 255),
+        Kind::Byte => if tagged { 65530 } else { 251 },
+        Kind::Int => if tagged { 65529 } else { 252 },
+        Kind::Long => if tagged { 65528 } else { 253 },
+        Kind::Float => if tagged { 65527 } else { 254 },
+        Kind::Double => if tagged { 65526 } else { 255 },
         Kind::Unknown => 0,
     }
-}
-
-// Whether the edition has texts of `width` bytes.
-fn text_width(tagged: bool, width: usize) -> bool
-    ensures { result ≡ (leb 1 width && leb width (text_max tagged)) }
-{
-    if width < 1 {
-        return false;
-    }
-    if tagged { width <= 2045 } else { width <= 244 }
 }
 
 // Whether the edition has the type.
@@ -51,13 +34,9 @@ fn has_type(tagged: bool, kind: Kind, width: usize) -> bool
     ensures { result ≡ has_type tagged (type_of kind width) }
 {
     match kind {
-        Kind::Text => text_width(tagged, width),
+        Kind::Text => 1 <= width && width <= if tagged { 2045 } else { 244 },
         Kind::StrL => tagged,
-        Kind::Byte => true,
-        Kind::Int => true,
-        Kind::Long => true,
-        Kind::Float => true,
-        Kind::Double => true,
+        Kind::Byte | Kind::Int | Kind::Long | Kind::Float | Kind::Double => true,
         Kind::Unknown => false,
     }
 }
@@ -67,14 +46,11 @@ pub fn types_held(f: &[u8], p: usize, k: usize, tagged: bool, msf: bool, totagge
     requires { Typed tagged (order_by msf) f.now p k }
     ensures { result ≡ all_types totagged (read_times (type_code tagged (order_by msf)) k f.now p) }
 {
-    let mut i: usize = 0;
-    while i < k {
+    for i in 0..k {
         let x = data::field_at(f, p, i, tagged, msf);
-        let kind = x.kind;
-        if !has_type(totagged, kind, x.width) {
+        if !has_type(totagged, x.kind, x.width) {
             return false;
         }
-        i += 1;
     }
     true
 }
@@ -94,13 +70,10 @@ pub fn put_types(
     ensures { Puts (fill (all_slots (type_code totagged (order_by tomsf)) (read_times (type_code tagged (order_by msf)) k f.now p))) out.old out.new result }
 {
     let w = codes::code_width(totagged);
-    let mut i: usize = 0;
-    while i < k {
+    for i in 0..k {
         let x = data::field_at(f, p, i, tagged, msf);
-        let kind = x.kind;
-        let c = code_of(totagged, kind, x.width);
+        let c = code_of(totagged, x.kind, x.width);
         number::put_number(&mut out[i * w..], c, w, tomsf);
-        i += 1;
     }
     k * w
 }

@@ -1,11 +1,10 @@
 -- Sections that stand one after another: the next and the rest.
-use mathlib.Core.Path.{◌≡◌, refl, sym, ap, ◌∙◌, subst}
-use Prim.Native.Nat.{ℕ, zero, suc, ◌+◌, ◌≤◌, ◌<◌}
+use mathlib.Core.Path.{◌≡◌, refl, sym, ◌∙◌, subst}
+use Prim.Native.Nat.{ℕ, ◌+◌, ◌≤◌, ◌<◌}
 use native.Mathlib.Omega.{arith}
-use mathlib.Core.List.{List, [], ◌∷◌, ◌++◌}
-use lib.ListN.{length}
+use mathlib.Core.List.{List, [], ◌∷◌}
 use Rattle.format.specs.Slot.{Fits}
-use Rattle.format.specs.Grammar.{Sect, all_slots, sizes, AllRight}
+use Rattle.format.specs.Grammar.{Sect, all_slots}
 use Rattle.format.proofs.SlotLaws.{fits_bound, fits_left, fits_after}
 use Rattle.format.proofs.Good.{Good}
 use Rattle.writing.specs.Writes.{Stand}

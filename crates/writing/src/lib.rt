@@ -8,10 +8,10 @@ pub fn put_tag(out: &mut [u8], t: &[u8], there: bool) -> usize
     requires { length (cond there t.now []) ≤ length out.old }
     ensures { Puts (cond there t.now []) out.old out.new result }
 {
-    if there {
-        let n = t.len();
-        text::put_bytes(&mut out[..], t, 0, n);
-        return n;
+    if !there {
+        return 0;
     }
-    0
+    let n = t.len();
+    out[..n].copy_from_slice(t);
+    n
 }

@@ -145,7 +145,13 @@ fn killed_it_leaves_the_output_whole() {
 /// A program that may not write, or read: run as nobody where the test is run by root.
 fn as_nobody(folder: &Folder) -> Command {
     let copy = folder.join("dta");
-    std::fs::copy(env!("CARGO_BIN_EXE_dta"), &copy).unwrap();
+    // by a process of its own: what this one has open for writing, a child that another test starts meanwhile may have open, too, and then it can't be run
+    let copied = Command::new("cp")
+        .arg(env!("CARGO_BIN_EXE_dta"))
+        .arg(&copy)
+        .status()
+        .unwrap();
+    assert!(copied.success());
     let mut command = Command::new(copy);
     let is_root = std::fs::metadata("/proc/self")
         .is_ok_and(|own| std::os::unix::fs::MetadataExt::uid(&own) == 0);

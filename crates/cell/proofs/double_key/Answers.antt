@@ -1,9 +1,10 @@
-use Rattle.std.proofs.Common.{◌≡◌, ◌^◌, ◌<◌, true, false, ℤ, sym, ap, ◌∙◌, subst, arith, w32, w64, to_z, of_z}
+use Rattle.std.proofs.Common.{◌≡◌, ◌^◌, ◌<◌, true, false, ℤ, sym, ap, ◌∙◌, subst, arith, w32, w64}
 use lib.Signed.{mag}
-use lib.Ieee.{Float, of_bits, neg, eq, of_int, to_signed, binary64}
+use lib.Ieee.{Float, of_bits, neg, eq, of_int, binary64}
 use mir.ValLaws.{to_z-of_z}
 use Rattle.format.specs.Cells.{seeks}
 use Rattle.cell.proofs.KeyLaws.{low_no, high_no, not_whole, is_whole, small, asks_low, asks_high}
+use Rattle.cell.proofs.double_key.Goals.{else-x-via-then-x+else-x-2, else-x-via-else-x}
 use Rattle.cell.proofs.double_key.Goals as goal
 
 pub truncating_f64_to_i64-t-requires : goal.truncating_f64_to_i64-t-requires
@@ -33,10 +34,10 @@ returns-else-nearest_i64_to_f64-x c =
     let w = subst (λ (y : Float). eq y c.args.x ≡ false) ((c.nearest_i64_to_f64.ensures ∙ ap (of_int binary64) t)) c.if-nearest_i64_to_f64-x.false in
     sym (not_whole _ c.if-x.true c.if-x-2.true w)
 
-pub returns-else-x-2 : goal.returns-else-x-2
-unfolding of_bits
-returns-else-x-2 c = sym (high_no _ c.if-x-2.false)
-
 pub returns-else-x : goal.returns-else-x
 unfolding of_bits neg
-returns-else-x c = sym (low_no _ c.if-x.false)
+returns-else-x c =
+    elim c.else-x.branch [
+      | else-x-via-then-x+else-x-2 w ↦ sym (high_no _ w.if-x-2.false)
+      | else-x-via-else-x w ↦ sym (low_no _ w.if-x.false)
+    ]

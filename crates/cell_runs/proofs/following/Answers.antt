@@ -1,12 +1,14 @@
+use mathlib.Core.Path.{sym}
 use native.Mathlib.Omega.{arith}
-use Rattle.cell_runs.proofs.RunLaws.{following_zero, following_past, following_some}
+use Rattle.columns.proofs.ColumnLaws.{among_in}
+use Rattle.cell_runs.proofs.RunLaws.{following_none, following_some}
 use Rattle.cell_runs.proofs.following.Goals as goal
 
-pub returns-then-i-eq0 : goal.returns-then-i-eq0
-returns-then-i-eq0 c = let a = c.args in following_zero a.i a.k c.if-i-eq0.true
+pub returns-then-not-is_among : goal.returns-then-not-is_among
+returns-then-not-is_among c = following_none c.args.i c.args.k (sym c.if-not-is_among.ensures)
 
-pub returns-then-k-i : goal.returns-then-k-i
-returns-then-k-i c = let a = c.args in following_past a.i a.k (omega arith) c.if-k-i.true
+pub overflow_add-result : goal.overflow_add-result
+overflow_add-result c = let b = among_in c.args.i c.args.k (sym c.if-not-is_among.ensures) in omega (arith, b, c.well_formed)
 
 pub returns : goal.returns
-returns c = let a = c.args in following_some a.i a.k (omega arith) (omega arith)
+returns c = following_some c.args.i c.args.k (sym c.if-not-is_among.ensures)

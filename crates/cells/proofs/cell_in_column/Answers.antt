@@ -1,32 +1,58 @@
-use mathlib.Core.Path.{refl, ap, ◌∙◌}
+use mathlib.Core.Path.{◌≡◌, refl, ap, ◌∙◌}
 use native.Mathlib.Omega.{arith}
 use lib.ListN.{get_or}
+use Rattle.std.specs.Prelude.{Ok, Err}
+use Rattle.std.proofs.lemmas.Result.{err_from_is_err_and}
 use Rattle.format.specs.Edition.{n_data}
-use Rattle.editions.specs.Editions.{numbers_of}
+use Rattle.questions.specs.Ask.{ask_cell}
 use Rattle.checking.specs.Checks.{layout_by}
 use Rattle.reading.proofs.PlaceLaws.{start_is}
-use Rattle.cells.specs.Cells.{row_in}
-use Rattle.cells.proofs.RowLaws.{can_read, said_in_lem}
+use Rattle.answers.proofs.TellLaws.{tells_refused}
+use Rattle.cells.specs.Cells.{said_by, row_in}
+use Rattle.cells.proofs.CellLaws.{cell_unread}
+use Rattle.cells.proofs.RowLaws.{row_unread, can_read, said_in_row}
 use Rattle.cells.proofs.cell_in_column.Goals as goal
+
+pub returns-in_err-o : goal.returns-in_err-o
+returns-in_err-o c =
+    let a = c.args in
+    let p = err_from_is_err_and c.from_residual.result c.from_residual.ensures.1 in
+    rw (p.1, p.2) (tells_refused a.f.now (layout_by a.l) (ask_cell a.i a.j) said_by (λ n. refl) _ (rw c.is_cell.ensures at c.in_err-o.ensures))
+
+pub returns-in_err-c : goal.returns-in_err-c
+returns-in_err-c c =
+    let a = c.args in
+    let p = err_from_is_err_and c.from_residual-in_err-c.result c.from_residual-in_err-c.ensures.1 in
+    let d : Err c.in_err-c.field-0.0 ≡ a.c = grind arith in
+    rw (p.1, p.2) (cell_unread a.f.now (layout_by a.l) a.i a.j c.in_ok-o.o (rw c.is_cell.ensures at c.in_ok-o.ensures) _ (d ∙ c.requires))
+
+pub returns-in_err-row : goal.returns-in_err-row
+returns-in_err-row c =
+    let a = c.args in
+    let l = layout_by a.l in
+    let o = c.in_ok-o.o in
+    let p = err_from_is_err_and c.from_residual-in_err-row.result c.from_residual-in_err-row.ensures.1 in
+    let d : Ok c.in_ok-c.c ≡ a.c = grind arith in
+    let s = start_is o.e.tagged n_data 6 (get_or a.l.places 9 0) c.tag_size-gap.result refl c.tag_size-gap.ensures in
+    rw (p.1, p.2) (row_unread a.f.now l a.i a.j o (rw c.is_cell.ensures at c.in_ok-o.ensures) c.in_ok-c.c (d ∙ c.requires) _
+    (c.in_err-row.ensures ∙ ap (row_in a.f.now c.in_ok-c.c.row a.j a.l.n) s))
 
 pub cell_in_row-requires : goal.cell_in_row-requires
 cell_in_row-requires c =
     let a = c.args in
     let l = layout_by a.l in
-    let o = c.edition_in-o in
-    let t = c.tag_size-a in
-    let s = start_is (numbers_of o.result.e).tagged n_data 6 (get_or a.l.places 9 0) t.result refl t.ensures in
-    let r = c.row_in-row in
-    let R = r.ensures ∙ ap (row_in a.f.now a.c.code a.c.row a.j a.l.n) s in
-    can_read a.f.now l a.i a.j o.result o.ensures a.c c.requires r.result R (omega (arith, c.well_formed.0.0))
+    let o = c.in_ok-o.o in
+    let d : Ok c.in_ok-c.c ≡ a.c = grind arith in
+    let s = start_is o.e.tagged n_data 6 (get_or a.l.places 9 0) c.tag_size-gap.result refl c.tag_size-gap.ensures in
+    can_read a.f.now l a.i a.j o (rw c.is_cell.ensures at c.in_ok-o.ensures) c.in_ok-c.c (d ∙ c.requires) c.in_ok-row.row
+    (c.in_ok-row.ensures ∙ ap (row_in a.f.now c.in_ok-c.c.row a.j a.l.n) s)
 
 pub returns : goal.returns
 returns c =
     let a = c.args in
     let l = layout_by a.l in
-    let o = c.edition_in-o in
-    let t = c.tag_size-a in
-    let s = start_is (numbers_of o.result.e).tagged n_data 6 (get_or a.l.places 9 0) t.result refl t.ensures in
-    let r = c.row_in-row in
-    let R = r.ensures ∙ ap (row_in a.f.now a.c.code a.c.row a.j a.l.n) s in
-    said_in_lem a.f.now l a.i a.j o.result o.ensures a.c c.requires r.result R (omega (arith, c.well_formed.0.0)) _ c.cell_in_row.ensures
+    let o = c.in_ok-o.o in
+    let d : Ok c.in_ok-c.c ≡ a.c = grind arith in
+    let s = start_is o.e.tagged n_data 6 (get_or a.l.places 9 0) c.tag_size-gap.result refl c.tag_size-gap.ensures in
+    said_in_row a.f.now l a.i a.j o (rw c.is_cell.ensures at c.in_ok-o.ensures) c.in_ok-c.c (d ∙ c.requires) c.in_ok-row.row
+    (c.in_ok-row.ensures ∙ ap (row_in a.f.now c.in_ok-c.c.row a.j a.l.n) s) (omega (arith, c.well_formed.0.0)) _ c.cell_in_row.ensures

@@ -1,5 +1,6 @@
-use mathlib.Core.Path.{◌≡◌, sym, ◌∙◌}
-use Prim.Native.Nat.{ℕ}
+use mathlib.Core.Path.{◌≡◌, sym}
+use Prim.Native.Nat.{ℕ, ◌+◌, ◌<◌}
+use lib.ListN.{length}
 use native.Mathlib.Omega.{arith}
 use Rattle.format.specs.Number.{order_by}
 use Rattle.format.specs.Edition.{Edition}
@@ -8,6 +9,7 @@ use Rattle.codes.specs.declared.Kind.{Kind}
 use Rattle.codes.specs.Fields.{type_of}
 use Rattle.cells.specs.Cells.{cell_said, HasKind}
 use Rattle.cells.proofs.CellLaws.{said_none, text_kind, cell_out, cell_got}
+use Rattle.cells.proofs.read_cell.Goals.{then-f-q-via-then-f-q, then-f-q-via-else-f-q+then-f-q-2}
 use Rattle.cells.proofs.read_cell.Goals as goal
 
 -- the width, in an edition with these widths of v and o
@@ -16,32 +18,20 @@ width_in e vw ow v u k w h = rw (v, u) h.width
 
 pub returns-then-is_text : goal.returns-then-is_text
 returns-then-is_text c =
-    λ e v u.
-    (let a = c.args in
-    let f = a.f.now in
-    let o = order_by a.msf in
-    let g = c.requires in
-    text_kind e o f a.kind a.width a.p (sym c.is_text.ensures ∙ c.if-is_text.true) _ (c.read_text.ensures e o))
+    let a = c.args in
+    λ e v u. text_kind e (order_by a.msf) a.f.now a.field.kind a.field.width a.p (sym c.if-is_text.ensures) _ (c.read_text.ensures e (order_by a.msf))
 
 pub returns-then-f-q : goal.returns-then-f-q
 returns-then-f-q c =
-    λ e v u.
-    (let a = c.args in
-    let f = a.f.now in
-    let o = order_by a.msf in
+    let a = c.args in
     let g = c.requires in
-    let h = sym c.is_text.ensures ∙ c.if-is_text.false in
-    said_none (cell_said e o f (type_of a.kind a.width) a.p) 17 _ c.no_said.ensures (cell_out e o f a.kind a.width a.p h g.kind (width_in e a.vw a.ow v u a.kind a.width g) (omega arith)))
-
-pub returns-then-f-q-2 : goal.returns-then-f-q-2
-returns-then-f-q-2 c =
+    let out : length a.f.now < a.p + a.field.width = elim c.then-f-q.branch [
+      | then-f-q-via-then-f-q x ↦ omega arith
+      | then-f-q-via-else-f-q+then-f-q-2 x ↦ omega arith
+    ] in
     λ e v u.
-    (let a = c.args in
-    let f = a.f.now in
-    let o = order_by a.msf in
-    let g = c.requires in
-    let h = sym c.is_text.ensures ∙ c.if-is_text.false in
-    said_none (cell_said e o f (type_of a.kind a.width) a.p) 17 _ c.no_said-then-f-q-2.ensures (cell_out e o f a.kind a.width a.p h g.kind (width_in e a.vw a.ow v u a.kind a.width g) (omega arith)))
+    said_none (cell_said e (order_by a.msf) a.f.now (type_of a.field.kind a.field.width) a.p)
+    (cell_out e (order_by a.msf) a.f.now a.field.kind a.field.width a.p (sym c.if-is_text.ensures) g.kind (width_in e a.vw a.ow v u a.field.kind a.field.width g) out)
 
 pub cell_at-requires : goal.cell_at-requires
 cell_at-requires c =
@@ -49,10 +39,8 @@ cell_at-requires c =
 
 pub returns : goal.returns
 returns c =
-    λ e v u.
-    (let a = c.args in
-    let f = a.f.now in
-    let o = order_by a.msf in
+    let a = c.args in
     let g = c.requires in
-    let h = sym c.is_text.ensures ∙ c.if-is_text.false in
-    cell_got e o f a.kind a.width a.p h g.kind (width_in e a.vw a.ow v u a.kind a.width g) (omega arith) _ (rw (v, u) c.cell_at.ensures))
+    λ e v u.
+    cell_got e (order_by a.msf) a.f.now a.field.kind a.field.width a.p (sym c.if-is_text.ensures) g.kind (width_in e a.vw a.ow v u a.field.kind a.field.width g) (omega arith) _
+    (rw (v, u) c.cell_at.ensures)

@@ -1,28 +1,22 @@
-use borrow.Author.Tests.{not-true, not-false}
-use Rattle.reading.specs.Reads.{length_in}
+use mathlib.Core.Path.{◌≡◌, ◌∙◌}
+use native.Mathlib.Omega.{arith}
+use Rattle.std.specs.Prelude.{None, Some, Err}
+use Rattle.refusal.specs.declared.Refusal.TheVariants.{NotReadable}
 use Rattle.reading.proofs.ReadLaws.{read_none, read_got}
 use Rattle.cells.specs.Cells.{cell_said}
 use Rattle.format.specs.Variables.{text_type}
 use Rattle.cells.proofs.CellLaws.{said_none, said_cell, text_said_none, text_said}
 use Rattle.cells.proofs.read_text.Goals as goal
 
--- src/lib.rt:173:9
-pub returns-then-not-t : goal.returns-then-not-t
-returns-then-not-t c =
-    λ e o.
-    (let a = c.args in
-    let f = a.f.now in
-    let t = c.text_in-t.result in
-    let T = c.text_in-t.ensures in
-    said_none (cell_said e o f (text_type a.width) a.p) 17 _ c.no_said.ensures
-    (text_said_none e o f a.width a.p (read_none t (length_in a.width f a.p) T (not-true t.there c.if-not-t.true))))
+pub returns-in_err-n : goal.returns-in_err-n
+returns-in_err-n c =
+    let a = c.args in
+    let z : None ≡ c.text_in.result = grind arith in
+    let r : c.from_residual.result ≡ Err NotReadable = grind arith in
+    λ e o. r ∙ said_none (cell_said e o a.f.now (text_type a.width) a.p) (text_said_none e o a.f.now a.width a.p (read_none _ (z ∙ c.text_in.ensures)))
 
--- src/lib.rt:168:1
 pub returns : goal.returns
 returns c =
-    λ e o.
-    (let a = c.args in
-    let f = a.f.now in
-    let t = c.text_in-t.result in
-    let T = c.text_in-t.ensures in
-    said_cell (cell_said e o f (text_type a.width) a.p) _ (text_said e o f a.width a.p t.value (read_got t (length_in a.width f a.p) T (not-false t.there c.if-not-t.false))))
+    let a = c.args in
+    let z : Some c.in_ok-n.n ≡ c.text_in.result = grind arith in
+    λ e o. said_cell (cell_said e o a.f.now (text_type a.width) a.p) _ (text_said e o a.f.now a.width a.p _ (read_got _ _ (z ∙ c.text_in.ensures)))

@@ -1,77 +1,66 @@
 use mathlib.Core.Path.{refl}
-use mathlib.Core.Bool.{true, false}
 use Prim.Native.Nat.{◌≤◌}
 use native.Mathlib.Omega.{arith}
 use lib.ListN.{length}
+use Rattle.std.proofs.lemmas.Result.{err_from_is_err_and}
+use Rattle.refusal.specs.declared.Refusal.TheVariants.{TooLong}
 use Rattle.format.specs.Dta.{length_max}
-use Rattle.editions.proofs.StartLaws.{number_known, none_known}
-use Rattle.checking.proofs.CheckLaws.{refused, too_long, not_known, begun, narrow, wide, sections_refused, map_room, map_count, map_refused, file_checked}
+use Rattle.checking.proofs.CheckLaws.{refused, too_long, unknown, begins_as, begun, narrow, wide, sections_refused, map_room, map_count, map_refused, file_checked}
 use Rattle.checking.proofs.check.Goals as goal
 
--- src/lib.rt:161:9
-pub returns-then-length_max-f : goal.returns-then-length_max-f
-returns-then-length_max-f c =
-    let f = c.args.f.now in
-    rw c.refused.ensures (refused f 1 (λ z. omega arith) (too_long f (omega (arith, c.length_max.ensures))))
+pub returns-then-f-length_max : goal.returns-then-f-length_max
+returns-then-f-length_max c =
+    refused c.args.f.now TooLong (too_long c.args.f.now (omega (arith, c.length_max.ensures)))
 
--- src/lib.rt:165:9
-pub returns-then-number-eq0 : goal.returns-then-number-eq0
-returns-then-number-eq0 c =
+pub returns-in_err-release : goal.returns-in_err-release
+returns-in_err-release c =
     let f = c.args.f.now in
     let s : length f ≤ length_max = omega (arith, c.length_max.ensures) in
-    rw c.refused-then-number-eq0.ensures (refused f 2 (λ z. omega arith) (not_known f s (none_known f c.release-number.result c.release-number.ensures c.if-number-eq0.true)))
+    let p = err_from_is_err_and c.from_residual.result c.from_residual.ensures.1 in
+    rw (p.1, p.2) (unknown f s c.of.ensures c.in_err-release.ensures.ok_part c.in_err-release.ensures.value)
 
--- src/lib.rt:169:9
-pub sections-s-requires : goal.sections-s-requires
-sections-s-requires c =
+pub sections-requires : goal.sections-requires
+sections-requires c =
     let f = c.args.f.now in
     let s : length f ≤ length_max = omega (arith, c.length_max.ensures) in
-    let n = c.release-number.result in
-    let k = number_known f n c.release-number.ensures c.if-number-eq0.false in
-    let e = c.numbers_of-e.result in
-    let q = c.numbers_of-e.ensures in
-    (begun f s n k e q, narrow f s n k e q, wide f s n k e q)
+    let r = c.in_ok-release.release in
+    let k = begins_as f s c.of.ensures c.in_ok-release.ensures.ok_part in
+    let e = c.numbers-e.result in
+    let q = c.numbers-e.ensures in
+    (begun f s r k e q, narrow f s r k e q, wide f s r k e q)
 
--- src/lib.rt:171:9
-pub returns-then-s-ne0 : goal.returns-then-s-ne0
-returns-then-s-ne0 c =
+pub returns-in_err-s : goal.returns-in_err-s
+returns-in_err-s c =
     let f = c.args.f.now in
     let s : length f ≤ length_max = omega (arith, c.length_max.ensures) in
-    let n = c.release-number.result in
-    let k = number_known f n c.release-number.ensures c.if-number-eq0.false in
-    let e = c.numbers_of-e.result in
-    let q = c.numbers_of-e.ensures in
-    rw c.refused-then-s-ne0.ensures (refused f _ c.if-s-ne0.true (sections_refused f s n k e q c.is_msf-msf.result c.is_msf-msf.ensures c.sections-s.ensures c.if-s-ne0.true))
+    let k = begins_as f s c.of.ensures c.in_ok-release.ensures.ok_part in
+    let p = err_from_is_err_and c.from_residual-in_err-s.result c.from_residual-in_err-s.ensures.1 in
+    rw (p.1, p.2) (sections_refused f s c.in_ok-release.release k c.numbers-e.result c.numbers-e.ensures c.is_msf-msf.result c.is_msf-msf.ensures c.in_err-s.ensures)
 
--- src/lib.rt:174:8
 pub map_right-requires : goal.map_right-requires
 map_right-requires c =
     let f = c.args.f.now in
     let s : length f ≤ length_max = omega (arith, c.length_max.ensures) in
-    let n = c.release-number.result in
-    let k = number_known f n c.release-number.ensures c.if-number-eq0.false in
-    let e = c.numbers_of-e.result in
-    let q = c.numbers_of-e.ensures in
-    (map_room f s n k e q c.is_msf-msf.result c.is_msf-msf.ensures c.sections-s.ensures c.if-s-ne0.false, map_count f s n k e q c.is_msf-msf.result c.is_msf-msf.ensures c.sections-s.ensures c.if-s-ne0.false)
+    let r = c.in_ok-release.release in
+    let k = begins_as f s c.of.ensures c.in_ok-release.ensures.ok_part in
+    let m = c.is_msf-msf.result in
+    let e = c.numbers-e.result in (
+      map_room f s r k e c.numbers-e.ensures m c.is_msf-msf.ensures c.in_ok-s.ensures,
+      map_count f s r k e c.numbers-e.ensures m c.is_msf-msf.ensures c.in_ok-s.ensures,
+    )
 
--- src/lib.rt:182:9
-pub returns-then-map_right : goal.returns-then-map_right
-returns-then-map_right c =
+pub returns-then-not-map_right : goal.returns-then-not-map_right
+returns-then-not-map_right c =
     let f = c.args.f.now in
     let s : length f ≤ length_max = omega (arith, c.length_max.ensures) in
-    let n = c.release-number.result in
-    let k = number_known f n c.release-number.ensures c.if-number-eq0.false in
-    let e = c.numbers_of-e.result in
-    let q = c.numbers_of-e.ensures in
-    file_checked f s n k e q c.is_msf-msf.result c.is_msf-msf.ensures c.sections-s.ensures c.if-s-ne0.false c.map_right.result c.map_right.ensures c.if-map_right.true _ _ refl c.order_mark.ensures
+    let k = begins_as f s c.of.ensures c.in_ok-release.ensures.ok_part in
+    map_refused f s c.in_ok-release.release k c.numbers-e.result c.numbers-e.ensures c.is_msf-msf.result c.is_msf-msf.ensures c.in_ok-s.ensures c.map_right.result
+    c.map_right.ensures c.if-not-map_right.true
 
--- src/lib.rt:157:1
 pub returns : goal.returns
 returns c =
     let f = c.args.f.now in
     let s : length f ≤ length_max = omega (arith, c.length_max.ensures) in
-    let n = c.release-number.result in
-    let k = number_known f n c.release-number.ensures c.if-number-eq0.false in
-    let e = c.numbers_of-e.result in
-    let q = c.numbers_of-e.ensures in
-    rw c.refused-2.ensures (refused f 10 (λ z. omega arith) (map_refused f s n k e q c.is_msf-msf.result c.is_msf-msf.ensures c.sections-s.ensures c.if-s-ne0.false c.map_right.result c.map_right.ensures c.if-map_right.false))
+    let k = begins_as f s c.of.ensures c.in_ok-release.ensures.ok_part in
+    file_checked f s c.in_ok-release.release k c.numbers-e.result c.numbers-e.ensures c.is_msf-msf.result c.is_msf-msf.ensures c.in_ok-s.ensures c.map_right.result
+    c.map_right.ensures c.if-not-map_right.false _ _ refl c.order_mark.ensures

@@ -1,138 +1,76 @@
-use mathlib.Core.Path.{◌≡◌, sym, ap, ◌∙◌}
-use Prim.Native.Nat.{ℕ, ◌+◌, ◌-◌, ◌<◌}
+use mathlib.Core.Path.{ap, ◌∙◌}
+use Prim.Native.Nat.{ℕ, ◌-◌}
 use native.Mathlib.Omega.{arith}
 use lib.ListN.{length}
+use Rattle.std.proofs.lemmas.Result.{err_from_is_err_and}
 use Rattle.format.specs.Slot.{Bytes}
 use Rattle.format.specs.Number.{order_by}
 use Rattle.format.specs.Grammar.{read_times}
 use Rattle.format.specs.Variables.{type_code}
 use Rattle.editions.specs.Editions.{numbers_of}
-use Rattle.strls.specs.declared.Frame.{Frame}
-use Rattle.checking.proofs.DataLaws.{data_tag, data_framed, data_longs, data_place}
 use Rattle.checking.proofs.RestLaws.{end_tag, expansions_refused, data_refused, strls_refused, blocks_refused, end_room, rest_met}
 use Rattle.checking.proofs.later_sections.Goals as goal
 
--- src/lib.rt:93:9
-pub returns-then-x-ne0 : goal.returns-then-x-ne0
-returns-then-x-ne0 c =
+pub returns-in_err-x : goal.returns-in_err-x
+returns-in_err-x c =
     let a = c.args in
-    let e = numbers_of a.e in
     let o = order_by a.msf in
-    let f = a.f.now in
-    let t = read_times (type_code a.e.tagged o) a.k f a.types in
-    let X = c.expansion_list-x.ensures in
-    rw c.no_rest.ensures (expansions_refused e o a.n t f a.p a.places X c.if-x-ne0.true)
+    let t = read_times (type_code a.e.tagged o) a.k a.f.now a.types in
+    let p = err_from_is_err_and c.from_residual.result c.from_residual.ensures.1 in
+    rw (p.1, p.2) (expansions_refused (numbers_of a.e) o a.n t a.f.now a.p c.in_err-x.ensures)
 
--- src/lib.rt:98:9
-pub returns-then-d-ne0 : goal.returns-then-d-ne0
-returns-then-d-ne0 c =
+pub returns-in_err-d : goal.returns-in_err-d
+returns-in_err-d c =
     let a = c.args in
-    let e = numbers_of a.e in
     let o = order_by a.msf in
-    let f = a.f.now in
-    let t = read_times (type_code a.e.tagged o) a.k f a.types in
-    let X = c.expansion_list-x.ensures in
-    let w = c.requires.4 in
-    let D = c.data_list-d.ensures a.e.v_width a.e.o_width w.eight in
-    rw c.no_rest-then-d-ne0.ensures (data_refused e o a.n t f a.p a.places X c.if-x-ne0.false D c.if-d-ne0.true)
+    let t = read_times (type_code a.e.tagged o) a.k a.f.now a.types in
+    let p = err_from_is_err_and c.from_residual-in_err-d.result c.from_residual-in_err-d.ensures.1 in
+    rw (p.1, p.2)
+    (data_refused (numbers_of a.e) o a.n t a.f.now a.p c.in_ok-x.ensures (c.in_err-d.ensures a.e.v_width a.e.o_width c.requires.4.eight))
 
--- src/lib.rt:104:15
-pub overflow_add-g : goal.overflow_add-g
-overflow_add-g c =
+pub long_strings-requires : goal.long_strings-requires
+long_strings-requires c =
+    let e = c.args.e in
+    (c.requires.2, c.requires.4, c.in_ok-d.ensures e.v_width e.o_width c.requires.4.eight)
+
+pub returns-in_err-s : goal.returns-in_err-s
+returns-in_err-s c =
     let a = c.args in
-    let e = numbers_of a.e in
     let o = order_by a.msf in
-    let f = a.f.now in
-    let t = read_times (type_code a.e.tagged o) a.k f a.types in
-    let X = c.expansion_list-x.ensures in
-    let w = c.requires.4 in
-    let D = c.data_list-d.ensures a.e.v_width a.e.o_width w.eight in
-    let n : length f < 18446744073709551616 = c.well_formed.0.0 in
-    omega (arith, c.tag_size.ensures, data_tag a.e.tagged, data_place a.e.tagged o _ _ a.n t f c.expansion_list-x.result.at (sym D.code ∙ c.if-d-ne0.false))
+    let t = read_times (type_code a.e.tagged o) a.k a.f.now a.types in
+    let D = c.in_ok-d.ensures a.e.v_width a.e.o_width c.requires.4.eight in
+    let p = err_from_is_err_and c.from_residual-in_err-s.result c.from_residual-in_err-s.ensures.1 in
+    rw (p.1, p.2) (strls_refused (numbers_of a.e) o a.n t a.f.now a.p c.in_ok-x.ensures D c.in_err-s.ensures)
 
--- src/lib.rt:112:9
-pub strl_list-s-requires : goal.strl_list-s-requires
-strl_list-s-requires c =
+pub label_list-requires : goal.label_list-requires
+label_list-requires c =
+    (c.in_ok-s.ensures.inside, c.requires.3.names)
+
+pub returns-in_err-label_list : goal.returns-in_err-label_list
+returns-in_err-label_list c =
     let a = c.args in
-    let e = numbers_of a.e in
     let o = order_by a.msf in
-    let f = a.f.now in
-    let t = read_times (type_code a.e.tagged o) a.k f a.types in
-    let X = c.expansion_list-x.ensures in
-    let w = c.requires.4 in
-    let D = c.data_list-d.ensures a.e.v_width a.e.o_width w.eight in
-    let x = c.expansion_list-x.result.at in
-    let q : x + c.tag_size.result ≡ x + _ = ap (λ (y : ℕ). x + y) (c.tag_size.ensures ∙ data_tag a.e.tagged) in
-    let g : Frame = record { types = a.types; k = a.k; «data» = x + c.tag_size.result; n = a.n; tagged = a.e.tagged; msf = a.msf; vwidth = a.e.v_width; owidth = a.e.o_width; rwidth = a.e.record_width } in
-    (data_framed f g x q c.requires.2 w.eight (sym D.code ∙ c.if-d-ne0.false) w.record_small, D.inside)
+    let t = read_times (type_code a.e.tagged o) a.k a.f.now a.types in
+    let D = c.in_ok-d.ensures a.e.v_width a.e.o_width c.requires.4.eight in
+    let p = err_from_is_err_and c.from_residual-in_err-label_list.result c.from_residual-in_err-label_list.ensures.1 in
+    rw (p.1, p.2) (blocks_refused (numbers_of a.e) o a.n t a.f.now a.p c.in_ok-x.ensures D c.in_ok-s.ensures c.in_err-label_list.ensures)
 
--- src/lib.rt:114:9
-pub returns-then-s-ne0 : goal.returns-then-s-ne0
-returns-then-s-ne0 c =
+pub overflow_sub-result : goal.overflow_sub-result
+overflow_sub-result c =
     let a = c.args in
-    let e = numbers_of a.e in
     let o = order_by a.msf in
-    let f = a.f.now in
-    let t = read_times (type_code a.e.tagged o) a.k f a.types in
-    let X = c.expansion_list-x.ensures in
-    let w = c.requires.4 in
-    let D = c.data_list-d.ensures a.e.v_width a.e.o_width w.eight in
-    let x = c.expansion_list-x.result.at in
-    let q : x + c.tag_size.result ≡ x + _ = ap (λ (y : ℕ). x + y) (c.tag_size.ensures ∙ data_tag a.e.tagged) in
-    let g : Frame = record { types = a.types; k = a.k; «data» = x + c.tag_size.result; n = a.n; tagged = a.e.tagged; msf = a.msf; vwidth = a.e.v_width; owidth = a.e.o_width; rwidth = a.e.record_width } in
-    let S = data_longs f g x q c.requires.2 w.eight _ _ c.strl_list-s.ensures in
-    rw c.no_rest-then-s-ne0.ensures (strls_refused e o a.n t f a.p a.places X c.if-x-ne0.false D c.if-d-ne0.false S c.if-s-ne0.true)
+    let t = read_times (type_code a.e.tagged o) a.k a.f.now a.types in
+    let D = c.in_ok-d.ensures a.e.v_width a.e.o_width c.requires.4.eight in
+    let u : Bytes a.f.now = λ i. omega (arith, c.shared_slice_known-1.given i) in
+    let z = end_room (numbers_of a.e) o a.n t a.f.now a.p c.in_ok-x.ensures D c.in_ok-s.ensures c.in_ok-label_list.ensures u in
+    omega (arith, c.tag_size.ensures, end_tag a.e.tagged)
 
--- src/lib.rt:119:9
-pub returns-then-b-ne0 : goal.returns-then-b-ne0
-returns-then-b-ne0 c =
-    let a = c.args in
-    let e = numbers_of a.e in
-    let o = order_by a.msf in
-    let f = a.f.now in
-    let t = read_times (type_code a.e.tagged o) a.k f a.types in
-    let X = c.expansion_list-x.ensures in
-    let w = c.requires.4 in
-    let D = c.data_list-d.ensures a.e.v_width a.e.o_width w.eight in
-    let x = c.expansion_list-x.result.at in
-    let q : x + c.tag_size.result ≡ x + _ = ap (λ (y : ℕ). x + y) (c.tag_size.ensures ∙ data_tag a.e.tagged) in
-    let g : Frame = record { types = a.types; k = a.k; «data» = x + c.tag_size.result; n = a.n; tagged = a.e.tagged; msf = a.msf; vwidth = a.e.v_width; owidth = a.e.o_width; rwidth = a.e.record_width } in
-    let S = data_longs f g x q c.requires.2 w.eight _ _ c.strl_list-s.ensures in
-    rw c.no_rest-then-b-ne0.ensures (blocks_refused e o a.n t f a.p a.places X c.if-x-ne0.false D c.if-d-ne0.false S c.if-s-ne0.false c.label_list-b.ensures c.if-b-ne0.true)
-
--- src/lib.rt:121:19
-pub overflow_sub-places : goal.overflow_sub-places
-overflow_sub-places c =
-    let a = c.args in
-    let e = numbers_of a.e in
-    let o = order_by a.msf in
-    let f = a.f.now in
-    let t = read_times (type_code a.e.tagged o) a.k f a.types in
-    let X = c.expansion_list-x.ensures in
-    let w = c.requires.4 in
-    let D = c.data_list-d.ensures a.e.v_width a.e.o_width w.eight in
-    let x = c.expansion_list-x.result.at in
-    let q : x + c.tag_size.result ≡ x + _ = ap (λ (y : ℕ). x + y) (c.tag_size.ensures ∙ data_tag a.e.tagged) in
-    let g : Frame = record { types = a.types; k = a.k; «data» = x + c.tag_size.result; n = a.n; tagged = a.e.tagged; msf = a.msf; vwidth = a.e.v_width; owidth = a.e.o_width; rwidth = a.e.record_width } in
-    let S = data_longs f g x q c.requires.2 w.eight _ _ c.strl_list-s.ensures in
-    let u : Bytes f = λ i. omega (arith, c.shared_slice_known-1.given i) in
-    let z = end_room e o a.n t f a.p a.places X c.if-x-ne0.false D c.if-d-ne0.false S c.if-s-ne0.false c.label_list-b.ensures u c.if-b-ne0.false in
-    omega (arith, c.tag_size-2.ensures, end_tag a.e.tagged)
-
--- src/lib.rt:78:1
 pub returns : goal.returns
 returns c =
     let a = c.args in
-    let e = numbers_of a.e in
     let o = order_by a.msf in
-    let f = a.f.now in
-    let t = read_times (type_code a.e.tagged o) a.k f a.types in
-    let X = c.expansion_list-x.ensures in
-    let w = c.requires.4 in
-    let D = c.data_list-d.ensures a.e.v_width a.e.o_width w.eight in
-    let x = c.expansion_list-x.result.at in
-    let q : x + c.tag_size.result ≡ x + _ = ap (λ (y : ℕ). x + y) (c.tag_size.ensures ∙ data_tag a.e.tagged) in
-    let g : Frame = record { types = a.types; k = a.k; «data» = x + c.tag_size.result; n = a.n; tagged = a.e.tagged; msf = a.msf; vwidth = a.e.v_width; owidth = a.e.o_width; rwidth = a.e.record_width } in
-    let S = data_longs f g x q c.requires.2 w.eight _ _ c.strl_list-s.ensures in
-    let u : Bytes f = λ i. omega (arith, c.shared_slice_known-1.given i) in
-    rest_met e o a.n t f a.p a.places X c.if-x-ne0.false D c.if-d-ne0.false S c.if-s-ne0.false c.label_list-b.ensures u c.if-b-ne0.false _ (ap (λ (y : ℕ). length f - y) (c.tag_size-2.ensures ∙ end_tag a.e.tagged))
+    let t = read_times (type_code a.e.tagged o) a.k a.f.now a.types in
+    let D = c.in_ok-d.ensures a.e.v_width a.e.o_width c.requires.4.eight in
+    let u : Bytes a.f.now = λ i. omega (arith, c.shared_slice_known-1.given i) in
+    rest_met (numbers_of a.e) o a.n t a.f.now a.p c.in_ok-x.ensures D c.in_ok-s.ensures c.in_ok-label_list.ensures u _
+    (ap (λ (y : ℕ). length a.f.now - y) (c.tag_size.ensures ∙ end_tag a.e.tagged))

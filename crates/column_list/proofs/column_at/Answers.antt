@@ -1,55 +1,38 @@
-use mathlib.Core.Path.{◌≡◌, refl, sym, ap, ◌∙◌}
-use Prim.Native.Nat.{ℕ, ◌+◌, ◌≤◌}
+use mathlib.Core.Path.{◌≡◌, sym, ap, subst, ◌∙◌}
 use native.Mathlib.Omega.{arith}
-use borrow.Author.Tests.{not-false}
-use Rattle.format.specs.Edition.{n_variable_types}
-use Rattle.editions.specs.Editions.{numbers_of}
-use Rattle.questions.specs.Ask.{place, start_of}
+use mathlib.Core.Bool.{true}
+use Rattle.std.specs.Prelude.{Ok, Err, min}
+use Rattle.std.proofs.lemmas.Result.{err_from_is_err_and}
+use Rattle.questions.specs.Ask.{among}
 use Rattle.checking.specs.Checks.{layout_by}
-use Rattle.reading.proofs.PlaceLaws.{start_is}
-use Rattle.columns.specs.Columns.{capped}
-use Rattle.columns.proofs.ColumnLaws.{among_in}
-use Rattle.column_list.proofs.ListLaws.{refused_all, field_inside, column_is}
+use Rattle.column_list.specs.Offsets.{Offsets}
+use Rattle.column_list.proofs.ListLaws.{told_opens, refused_all, at_inside, column_is}
 use Rattle.column_list.proofs.column_at.Goals as goal
 
-pub returns-then-first-ne0 : goal.returns-then-first-ne0
-returns-then-first-ne0 c =
-    let in_file : (let a = c.args in (1 ≤ a.i) × (a.i ≤ a.l.k)) = let a = c.args in
-    among_in a.i a.l.k (sym c.is_among.ensures ∙ not-false c.is_among.result c.if-not-is_among.false-raw) in
-    refused_all c.requires c.args.i in_file.0 in_file.1 c.if-first-ne0.true
+pub returns-in_err-first : goal.returns-in_err-first
+returns-in_err-first c =
+    let a = c.args in
+    let p = err_from_is_err_and c.from_residual.result c.from_residual.ensures.1 in
+    let d : Err c.in_err-first.field-0.0 ≡ a.first = grind arith in
+    let b : among a.i (min a.l.k 32768) ≡ true = ap (among a.i) (sym c.min.ensures) ∙ sym c.if-not-is_among.ensures in
+    rw (p.1, p.2) (refused_all _ (subst (Offsets a.f.now (layout_by a.l) a.t.now) (sym d) c.requires) a.i b)
 
-pub overflow_sub-i : goal.overflow_sub-i
-overflow_sub-i c =
-    let in_file : (let a = c.args in (1 ≤ a.i) × (a.i ≤ a.l.k)) = let a = c.args in
-    among_in a.i a.l.k (sym c.is_among.ensures ∙ not-false c.is_among.result c.if-not-is_among.false-raw) in
-    omega (arith, in_file.0)
+pub returns-in_err-o : goal.returns-in_err-o
+returns-in_err-o c =
+    let a = c.args in
+    let d : Ok c.in_ok-first.first ≡ a.first = grind arith in
+    absurd (told_opens a.f.now (layout_by a.l) 1 c.in_ok-first.first (d ∙ c.requires.first) _ c.in_err-o.ensures)
 
-pub field_at-x-requires : goal.field_at-x-requires
-field_at-x-requires c =
-    let in_file : (let a = c.args in (1 ≤ a.i) × (a.i ≤ a.l.k)) = let a = c.args in
-    among_in a.i a.l.k (sym c.is_among.ensures ∙ not-false c.is_among.result c.if-not-is_among.false-raw) in
-    let types_here : (let a = c.args in c.add_capped-types.result ≡ capped (start_of (numbers_of c.edition_in-o.result.e).tagged (layout_by a.l) 2 n_variable_types)) = let s = c.place_of in
-    let t = c.tag_size in
-    let l = layout_by c.args.l in
-    let e = numbers_of c.edition_in-o.result.e in
-    c.add_capped-types.ensures ∙ ap capped (ap (λ (x : ℕ). x + t.result) s.ensures ∙ start_is e.tagged n_variable_types 16 (place l 2) t.result refl t.ensures) in
-    let o = c.edition_in-o in
-    field_inside c.requires c.args.i in_file.0 in_file.1 o.result o.ensures c.if-first-ne0.false (omega (arith, c.well_formed.0.0)) c.add_capped-types.result types_here
-
-pub overflow_sub-result : goal.overflow_sub-result
-overflow_sub-result c =
-    let in_file : (let a = c.args in (1 ≤ a.i) × (a.i ≤ a.l.k)) = let a = c.args in
-    among_in a.i a.l.k (sym c.is_among.ensures ∙ not-false c.is_among.result c.if-not-is_among.false-raw) in
-    omega (arith, in_file.0)
+pub field_at-field-requires : goal.field_at-field-requires
+field_at-field-requires c =
+    let a = c.args in
+    let d : Ok c.in_ok-first.first ≡ a.first = grind arith in
+    let T = subst (Offsets a.f.now (layout_by a.l) a.t.now) (sym d) c.requires in
+    at_inside a.f.now (layout_by a.l) c.in_ok-o.o c.in_ok-o.ensures (omega (arith, c.well_formed)) _ c.types_of-types.ensures T a.i (ap (among a.i) (sym c.min.ensures) ∙ sym c.if-not-is_among.ensures)
 
 pub returns : goal.returns
 returns c =
-    let in_file : (let a = c.args in (1 ≤ a.i) × (a.i ≤ a.l.k)) = let a = c.args in
-    among_in a.i a.l.k (sym c.is_among.ensures ∙ not-false c.is_among.result c.if-not-is_among.false-raw) in
-    let types_here : (let a = c.args in c.add_capped-types.result ≡ capped (start_of (numbers_of c.edition_in-o.result.e).tagged (layout_by a.l) 2 n_variable_types)) = let s = c.place_of in
-    let t = c.tag_size in
-    let l = layout_by c.args.l in
-    let e = numbers_of c.edition_in-o.result.e in
-    c.add_capped-types.ensures ∙ ap capped (ap (λ (x : ℕ). x + t.result) s.ensures ∙ start_is e.tagged n_variable_types 16 (place l 2) t.result refl t.ensures) in
-    let o = c.edition_in-o in
-    column_is c.requires c.args.i in_file.0 in_file.1 o.result o.ensures c.if-first-ne0.false (omega (arith, c.well_formed.0.0)) c.add_capped-types.result types_here (omega (arith, c.if-i-gt32768.false)) c.field_at-x.result c.field_at-x.ensures
+    let a = c.args in
+    let d : Ok c.in_ok-first.first ≡ a.first = grind arith in
+    let T = subst (Offsets a.f.now (layout_by a.l) a.t.now) (sym d) c.requires in
+    column_is a.f.now (layout_by a.l) c.in_ok-o.o c.in_ok-o.ensures (omega (arith, c.well_formed)) _ c.types_of-types.ensures T a.i (ap (among a.i) (sym c.min.ensures) ∙ sym c.if-not-is_among.ensures) _ c.field_at-field.ensures

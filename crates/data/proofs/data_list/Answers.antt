@@ -1,8 +1,9 @@
 use mathlib.Core.Path.{ap}
-use Prim.Native.Nat.{ℕ, ◌-◌, ◌*◌, ◌≤◌}
+use Prim.Native.Nat.{ℕ, ◌*◌, ◌≤◌}
 use native.Mathlib.Nat.{mul-le-mul}
 use native.Mathlib.Omega.{arith}
 use Rattle.format.specs.Number.{order_by}
+use Rattle.std.proofs.lemmas.Result.{err_from_is_err_and}
 use Rattle.data.proofs.PlaceLaws.{off_small}
 use Rattle.data.proofs.DataLaws.{data_refused, data_room, data_accepted}
 use Rattle.data.proofs.data_list.Goals as goal
@@ -14,35 +15,28 @@ overflow_mul-m c =
     let w : c.row_width.result ≤ 67008515 = omega (arith, b, c.row_width.ensures, c.requires.2.few) in
     omega (arith, mul-le-mul c.requires.1 w)
 
-pub returns-then-a-ne0 : goal.returns-then-a-ne0
-returns-then-a-ne0 c =
+pub returns-in_err-at : goal.returns-in_err-at
+returns-in_err-at c =
     let a = c.args in
-    let o = order_by a.msf in
-    let f = a.f.now in
     let e = ap (λ (x : ℕ). a.n * x) c.row_width.ensures in
-    data_refused a.tagged o f a.types a.k a.n a.p c.requires.2.right e c.opened-a.ensures c.if-a-ne0.true
+    let p = err_from_is_err_and c.from_residual.result c.from_residual.ensures.1 in
+    rw (p.1, p.2) (data_refused a.tagged (order_by a.msf) a.f.now a.types a.k a.n a.p c.requires.2.right e _ c.in_err-at.ensures)
 
-pub overflow_add-a : goal.overflow_add-a
-overflow_add-a c =
+pub overflow_add-at : goal.overflow_add-at
+overflow_add-at c =
     let a = c.args in
-    let o = order_by a.msf in
-    let f = a.f.now in
     let e = ap (λ (x : ℕ). a.n * x) c.row_width.ensures in
-    let r = data_room a.tagged o f a.types a.k a.n a.p c.requires.2.right e c.opened-a.ensures c.if-a-ne0.false in
+    let r = data_room a.tagged (order_by a.msf) a.f.now a.types a.k a.n a.p c.requires.2.right e c.in_ok-at.ensures in
     omega arith
 
-pub closed-requires : goal.closed-requires
-closed-requires c =
+pub tag_if-requires : goal.tag_if-requires
+tag_if-requires c =
     let a = c.args in
-    let o = order_by a.msf in
-    let f = a.f.now in
     let e = ap (λ (x : ℕ). a.n * x) c.row_width.ensures in
-    data_room a.tagged o f a.types a.k a.n a.p c.requires.2.right e c.opened-a.ensures c.if-a-ne0.false
+    data_room a.tagged (order_by a.msf) a.f.now a.types a.k a.n a.p c.requires.2.right e c.in_ok-at.ensures
 
 pub returns : goal.returns
 returns c =
     let a = c.args in
-    let o = order_by a.msf in
-    let f = a.f.now in
     let e = ap (λ (x : ℕ). a.n * x) c.row_width.ensures in
-    data_accepted a.tagged o f a.types a.k a.n a.p c.requires.2.right e c.opened-a.ensures c.if-a-ne0.false _ c.closed.ensures
+    data_accepted a.tagged (order_by a.msf) a.f.now a.types a.k a.n a.p c.requires.2.right e c.in_ok-at.ensures _ c.tag_if.ensures

@@ -1,13 +1,7 @@
 use mathlib.Core.Path.{◌≡◌}
-use Prim.Native.Nat.{◌-◌, ◌≤◌}
 use Rattle.format.specs.Number.{order_by}
 use Rattle.data.specs.Places.{off_at}
 use Rattle.data.proofs.row_width.Given as goal
 
 abbrev pub invariant-loop-i : goal.invariant-loop-i
-invariant-loop-i l =
-    (l.i ≤ l.k) × (l.sum ≡ off_at l.tagged (order_by l.msf) l.f l.types l.i)
-
-abbrev pub decreases-loop-i : goal.decreases-loop-i
-decreases-loop-i l =
-    l.k - l.i
+invariant-loop-i l = l.sum ≡ off_at l.tagged (order_by l.msf) l.f l.types l.i

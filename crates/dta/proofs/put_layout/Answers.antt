@@ -9,7 +9,6 @@ use Rattle.checking.specs.Checks.{layout_by}
 use Rattle.dta.proofs.StoreLaws.{sets_more, sets_all, sets_front, sets_long}
 use Rattle.dta.proofs.put_layout.Goals as goal
 
--- src/lib.rt:18:5
 pub bounds-out-1 : goal.bounds-out-1
 bounds-out-1 c =
     let a = c.args in
@@ -18,7 +17,6 @@ bounds-out-1 c =
     let n : 18 ≤ length d = c.requires.0 in
     lt-length-sets d 0 (v.edition ∷ []) (omega arith)
 
--- src/lib.rt:19:5
 pub bounds-out-2 : goal.bounds-out-2
 bounds-out-2 c =
     let a = c.args in
@@ -27,7 +25,6 @@ bounds-out-2 c =
     let n : 18 ≤ length d = c.requires.0 in
     lt-length-sets d 0 (v.edition ∷ v.order ∷ []) (omega arith)
 
--- src/lib.rt:20:5
 pub bounds-out-3 : goal.bounds-out-3
 bounds-out-3 c =
     let a = c.args in
@@ -36,7 +33,6 @@ bounds-out-3 c =
     let n : 18 ≤ length d = c.requires.0 in
     lt-length-sets d 0 (v.edition ∷ v.order ∷ v.k ∷ []) (omega arith)
 
--- src/lib.rt:23:9
 pub bounds-out-i : goal.bounds-out-i
 bounds-out-i c =
     let a = c.args in
@@ -45,11 +41,10 @@ bounds-out-i c =
     let n : 18 ≤ length d = c.requires.0 in
     let l = c.loop-i in
     let u = v.edition ∷ v.order ∷ v.k ∷ v.n ∷ [] in
-    let m = sets_long u (take l.i v.places) d l.out 0 4 l.invariant.1 in
+    let m = sets_long u (take l.i v.places) d l.out 0 4 l.invariant in
     let g : length v.places ≡ 14 = c.requires.1 in
     omega arith
 
--- src/lib.rt:22:5
 pub loop-i-preserved : goal.loop-i-preserved
 loop-i-preserved c =
     let a = c.args in
@@ -58,11 +53,10 @@ loop-i-preserved c =
     let n : 18 ≤ length d = c.requires.0 in
     let l = c.loop-i in
     let u = v.edition ∷ v.order ∷ v.k ∷ v.n ∷ [] in
-    let m = sets_long u (take l.i v.places) d l.out 0 4 l.invariant.1 in
+    let m = sets_long u (take l.i v.places) d l.out 0 4 l.invariant in
     let g : length v.places ≡ 14 = c.requires.1 in
-    (omega arith, sets_more v.places (sets d 0 u) l.out 4 l.i (omega arith) l.invariant.1)
+    sets_more v.places (sets d 0 u) l.out 4 l.i (omega arith) l.invariant
 
--- src/lib.rt:12:1
 pub shape_of-out : goal.shape_of-out
 shape_of-out c =
     let a = c.args in
@@ -71,11 +65,10 @@ shape_of-out c =
     let n : 18 ≤ length d = c.requires.0 in
     let l = c.loop-i in
     let u = v.edition ∷ v.order ∷ v.k ∷ v.n ∷ [] in
-    let m = sets_long u (take l.i v.places) d l.out 0 4 l.invariant.1 in
+    let m = sets_long u (take l.i v.places) d l.out 0 4 l.invariant in
     let g : length v.places ≡ 14 = c.requires.1 in
     m
 
--- src/lib.rt:12:1
 pub returns : goal.returns
 returns c =
     let a = c.args in
@@ -84,6 +77,6 @@ returns c =
     let n : 18 ≤ length d = c.requires.0 in
     let l = c.loop-i in
     let u = v.edition ∷ v.order ∷ v.k ∷ v.n ∷ [] in
-    let m = sets_long u (take l.i v.places) d l.out 0 4 l.invariant.1 in
+    let m = sets_long u (take l.i v.places) d l.out 0 4 l.invariant in
     let g : length v.places ≡ 14 = c.requires.1 in
-    sets_all v.places (sets d 0 u) l.out 4 l.i (omega arith) l.invariant.1 ∙ sets_front (numbers (layout_by v)) d 18 (ap (λ (x : ℕ). suc (suc (suc (suc x)))) g) n
+    sets_all v.places (sets d 0 u) l.out 4 l.i (omega arith) l.invariant ∙ sets_front (numbers (layout_by v)) d 18 (ap (λ (x : ℕ). suc (suc (suc (suc x)))) g) n

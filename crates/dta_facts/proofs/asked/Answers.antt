@@ -14,4 +14,4 @@ returns-then-q-gt15 c =
 pub returns : goal.returns
 returns c =
     let a = c.args in
-    asked_some a.file.now (layout_in a.layout.now) a.q a.i a.j (answer_by c.asked.result) c.if-q-gt15.false (ap answer_by c.asked.ensures ∙ asked_means a.file.now (layout_by c.layout_in.result) c.question_of.result ∙ asked_of a.file.now c.layout_in.ensures c.question_of.ensures)
+    asked_some a.file.now (layout_in a.layout.now) a.q a.i a.j _ c.if-q-gt15.false (ap answer_by c.asked.ensures ∙ asked_means a.file.now (layout_by c.layout_in.result) c.question_of.result ∙ asked_of a.file.now c.layout_in.ensures c.question_of.ensures)

@@ -13,7 +13,7 @@ returns-then-q-le15 c =
     let f = a.file.now in
     (k.ensures.0, asked_some f (layout_of f) a.q a.i a.j (answer_by k.result) (omega (arith, c.if-q-le15.true)) (ap answer_by k.ensures.1 ∙ asked_means f (layout_of f) c.question_of.result ∙ asked_of f refl c.question_of.ensures))
 
-pub returns : goal.returns
-returns c =
+pub returns-else-q-le15 : goal.returns-else-q-le15
+returns-else-q-le15 c =
     let a = c.args in
     (c.checked_asked-x.ensures.0, asked_none a.file.now (layout_of a.file.now) a.q a.i a.j (omega arith))

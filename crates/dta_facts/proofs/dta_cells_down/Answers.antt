@@ -6,4 +6,4 @@ use Rattle.dta_facts.proofs.dta_cells_down.Goals as goal
 pub returns : goal.returns
 returns c =
     let a = c.args in
-    runs_stored a.count.now (tells_by (λ (l : Layout). l.rows) a.j c.layout_in.ensures c.cells_down-down.ensures) c.put_first.ensures
+    runs_stored a.count.now (tells_by (λ (l : Layout). l.rows) a.j c.layout_in.ensures c.cells_down-down.ensures) c.number_of.ensures c.count_of.ensures c.put_first.ensures

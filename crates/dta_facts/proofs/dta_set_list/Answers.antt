@@ -3,4 +3,4 @@ use Rattle.dta_facts.proofs.dta_set_list.Goals as goal
 
 pub returns : goal.returns
 returns c =
-    listed_stored c.args.count.now c.set_list-sets.ensures c.put_first.ensures
+    listed_stored c.args.count.now c.set_list-sets.ensures c.list_code.ensures c.list_count.ensures c.put_first.ensures

@@ -5,34 +5,30 @@ use Rattle.format.specs.Number.{order_by, num}
 use Rattle.expansion.proofs.BlockLaws.{contents_short, contents_zero, contents_cut, contents_right}
 use Rattle.expansion.proofs.contents.Goals as goal
 
--- src/lib.rt:69:9
 pub returns-then-f-p : goal.returns-then-f-p
 returns-then-f-p c =
     let a = c.args in
     let w = c.kind_width-k.ensures.0 in
-    contents_short a.tagged (order_by a.msf) a.f.now a.p c.requires (omega arith)
+    contents_short a.tagged (order_by a.msf) a.f.now a.p (omega arith)
 
--- src/lib.rt:72:9
 pub returns-then-kind_zero : goal.returns-then-kind_zero
 returns-then-kind_zero c =
     let a = c.args in
     let w = c.kind_width-k.ensures.0 in
-    contents_zero a.tagged (order_by a.msf) a.f.now a.p c.requires (omega arith) (sym c.kind_zero.ensures ∙ c.if-kind_zero.true)
+    contents_zero a.tagged (order_by a.msf) a.f.now a.p (omega arith) (sym c.kind_zero.ensures ∙ c.if-kind_zero.true)
 
--- src/lib.rt:77:9
 pub returns-then-f-q : goal.returns-then-f-q
 returns-then-f-q c =
     let a = c.args in
     let w = c.kind_width-k.ensures.0 in
     let v = c.number-n.ensures.is ∙ ap (λ (k : ℕ). num (order_by a.msf) 4 a.f.now (a.p + k)) w in
-    contents_cut a.tagged (order_by a.msf) a.f.now a.p c.requires (omega arith) (sym c.kind_zero.ensures ∙ c.if-kind_zero.false)
+    contents_cut a.tagged (order_by a.msf) a.f.now a.p (omega arith) (sym c.kind_zero.ensures ∙ c.if-kind_zero.false)
     (a.p + c.kind_width-k.result + 4) c.number-n.result (omega arith) v (omega arith)
 
--- src/lib.rt:63:1
 pub returns : goal.returns
 returns c =
     let a = c.args in
     let w = c.kind_width-k.ensures.0 in
     let v = c.number-n.ensures.is ∙ ap (λ (k : ℕ). num (order_by a.msf) 4 a.f.now (a.p + k)) w in
-    contents_right a.tagged (order_by a.msf) a.f.now a.p c.requires (omega arith) (sym c.kind_zero.ensures ∙ c.if-kind_zero.false)
+    contents_right a.tagged (order_by a.msf) a.f.now a.p (omega arith) (sym c.kind_zero.ensures ∙ c.if-kind_zero.false)
     (a.p + c.kind_width-k.result + 4) c.number-n.result (omega arith) v (omega arith)

@@ -1,48 +1,30 @@
 use mathlib.Core.Path.{sym, ◌∙◌}
+use Prim.Native.Nat.{◌+◌}
 use native.Mathlib.Omega.{arith}
+use Rattle.std.proofs.lemmas.Result.{err_from_is_err_and}
 use Rattle.format.specs.Number.{order_by}
-use Rattle.header.proofs.NumberLaws.{held_room, clean_short, clean_right, clean_wrong, length_refused, length_on}
+use Rattle.header.proofs.NumberLaws.{clean_short, clean_right, clean_wrong, length_refused, length_on}
 use Rattle.header.proofs.counted_text.Goals as goal
 
--- src/lib.rt:65:9
-pub returns-then-a-ne0 : goal.returns-then-a-ne0
-returns-then-a-ne0 c =
+pub returns-in_err-n : goal.returns-in_err-n
+returns-in_err-n c =
     let a = c.args in
-    let f = a.f.now in
-    let h = c.held_number-a in
-    length_refused (order_by a.msf) a.w a.stamp a.max f a.p h.ensures c.if-a-ne0.true
+    let p = err_from_is_err_and c.from_residual.result c.from_residual.ensures.1 in
+    rw (p.1, p.2) (length_refused (order_by a.msf) a.w a.rule a.f.now a.p c.in_err-n.ensures)
 
--- src/lib.rt:67:13
-pub number-n-requires : goal.number-n-requires
-number-n-requires c =
+pub returns-then-f-at : goal.returns-then-f-at
+returns-then-f-at c =
     let a = c.args in
-    let f = a.f.now in
-    let h = c.held_number-a in
-    (held_room (order_by a.msf) a.w a.stamp a.max f a.p h.ensures c.if-a-ne0.false, c.requires.1)
+    length_on (order_by a.msf) a.w a.rule a.f.now a.p c.in_ok-n.ensures (clean_short c.in_ok-n.n a.f.now (a.p + a.w) (omega (arith, c.in_ok-n.ensures.room)))
 
--- src/lib.rt:69:9
-pub returns-then-f-a : goal.returns-then-f-a
-returns-then-f-a c =
-    let a = c.args in
-    let f = a.f.now in
-    let h = c.held_number-a in
-    length_on (order_by a.msf) a.w a.stamp a.max f a.p h.ensures c.if-a-ne0.false _ c.number-n.ensures.is
-    (clean_short _ f h.result.at h.ensures.inside (omega (arith, h.ensures.inside)))
-
--- src/lib.rt:75:9
 pub returns-then-no_zero : goal.returns-then-no_zero
 returns-then-no_zero c =
     let a = c.args in
-    let f = a.f.now in
-    let h = c.held_number-a in
-    length_on (order_by a.msf) a.w a.stamp a.max f a.p h.ensures c.if-a-ne0.false _ c.number-n.ensures.is
-    (clean_right _ f h.result.at (omega (arith, h.ensures.inside)) (sym c.if-no_zero.true ∙ c.no_zero.ensures))
+    length_on (order_by a.msf) a.w a.rule a.f.now a.p c.in_ok-n.ensures
+    (clean_right c.in_ok-n.n a.f.now (a.p + a.w) (omega (arith, c.in_ok-n.ensures.room)) (sym c.if-no_zero.true ∙ c.no_zero.ensures))
 
--- src/lib.rt:59:1
-pub returns : goal.returns
-returns c =
+pub returns-else-no_zero : goal.returns-else-no_zero
+returns-else-no_zero c =
     let a = c.args in
-    let f = a.f.now in
-    let h = c.held_number-a in
-    length_on (order_by a.msf) a.w a.stamp a.max f a.p h.ensures c.if-a-ne0.false _ c.number-n.ensures.is
-    (clean_wrong _ f h.result.at (omega (arith, h.ensures.inside)) (sym c.if-no_zero.false ∙ c.no_zero.ensures))
+    length_on (order_by a.msf) a.w a.rule a.f.now a.p c.in_ok-n.ensures
+    (clean_wrong c.in_ok-n.n a.f.now (a.p + a.w) (omega (arith, c.in_ok-n.ensures.room)) (sym c.if-no_zero.false ∙ c.no_zero.ensures))

@@ -5,7 +5,6 @@ use lib.Dec.{eqb}
 use Rattle.header.proofs.NumberLaws.{no_zero_by}
 use Rattle.header.proofs.no_zero.Goals as goal
 
--- src/lib.rt:51:1
 pub returns : goal.returns
 returns c =
     let a = c.args in

@@ -1,18 +1,26 @@
-use Rattle.format.specs.Number.{order_by}
 use mathlib.Core.Bool.{true}
+use Rattle.std.proofs.lemmas.Result.{err_from_is_err_and}
+use Rattle.format.specs.Number.{order_by}
 use Rattle.format.specs.Grammar.{tag}
 use Rattle.format.specs.Edition.{opening, closing, order_text, n_byteorder}
-use Rattle.section.proofs.PartLaws.{first_refused, part_judged}
+use Rattle.section.proofs.PartLaws.{first_refused, part_refused, part_judged}
 use Rattle.header.proofs.order_part.Goals as goal
 
--- src/lib.rt:105:9
-pub returns-then-a-ne0 : goal.returns-then-a-ne0
-returns-then-a-ne0 c =
+pub returns-in_err-a : goal.returns-in_err-a
+returns-in_err-a c =
     let a = c.args in
-    first_refused (opening true n_byteorder) (closing true n_byteorder) (tag (order_text (order_by a.msf)) 5) a.f.now a.p c.tag_if-a.ensures c.if-a-ne0.true
+    let p = err_from_is_err_and c.from_residual.result c.from_residual.ensures.1 in
+    rw (p.1, p.2) (first_refused (opening true n_byteorder) (closing true n_byteorder) (tag (order_text (order_by a.msf)) 5) a.f.now a.p _ c.in_err-a.ensures)
 
--- src/lib.rt:99:1
+pub returns-in_err-b : goal.returns-in_err-b
+returns-in_err-b c =
+    let a = c.args in
+    let p = err_from_is_err_and c.from_residual-in_err-b.result c.from_residual-in_err-b.ensures.1 in
+    rw (p.1, p.2)
+    (part_refused (opening true n_byteorder) (closing true n_byteorder) (tag (order_text (order_by a.msf)) 5) a.f.now a.p c.in_ok-a.ensures _ c.in_err-b.ensures)
+
 pub returns : goal.returns
 returns c =
     let a = c.args in
-    part_judged (opening true n_byteorder) (closing true n_byteorder) (tag (order_text (order_by a.msf)) 5) a.f.now a.p c.tag_if-a.ensures c.if-a-ne0.false c.order_text-b.ensures c.closed.ensures
+    part_judged (opening true n_byteorder) (closing true n_byteorder) (tag (order_text (order_by a.msf)) 5) a.f.now a.p c.in_ok-a.ensures c.in_ok-b.ensures _
+    c.tag_if-2.ensures

@@ -1,11 +1,8 @@
 use mathlib.Core.Path.{refl}
 use Rattle.questions.specs.Ask.{ask_order}
 use Rattle.checking.specs.Checks.{layout_by}
-use Rattle.answers.specs.Answers.{number_by}
-use Rattle.answers.proofs.TellLaws.{tells_answer}
+use Rattle.header_facts.proofs.HeadLaws.{number_told}
 use Rattle.header_facts.proofs.order.Goals as goal
 
--- src/lib.rt:130:1
 pub returns : goal.returns
-returns c =
-    λ f. tells_answer f (layout_by c.args.l) ask_order c.edition_in-o.result c.edition_in-o.ensures number_by _ refl _ refl c.number_if.ensures
+returns c = number_told (layout_by c.args.l) ask_order _ refl (λ e o f. refl) _ c.number_if.ensures

@@ -1,37 +1,27 @@
-use mathlib.Core.Path.{sym, ◌∙◌}
+use mathlib.Core.Path.{refl}
 use native.Mathlib.Omega.{arith}
-use borrow.Author.Tests.{not-true, not-false}
-use Rattle.questions.specs.Ask.{refused, answer_of, ask_table}
+use Rattle.std.proofs.lemmas.Result.{err_from_is_err_and}
+use Rattle.questions.specs.Ask.{ask_table}
 use Rattle.checking.specs.Checks.{layout_by}
-use Rattle.reading.proofs.AnswerLaws.{edition_widths, answer_out, answer_shut}
-use Rattle.label_words.proofs.WordLaws.{set_as, set_open}
+use Rattle.reading.proofs.AnswerLaws.{edition_widths}
+use Rattle.answers.proofs.TellLaws.{tells_refused, is_open}
+use Rattle.walks.specs.Answers.{set_by}
+use Rattle.label_words.proofs.WordLaws.{set_told}
 use Rattle.label_words.proofs.set_of.Goals as goal
 
-pub returns-then-not-is_among : goal.returns-then-not-is_among
-returns-then-not-is_among c =
+pub returns-in_err-o : goal.returns-in_err-o
+returns-in_err-o c =
     let a = c.args in
-    let n = c.is_among in
-    set_as _ (refused 16) (answer_of a.f.now (layout_by a.l) (ask_table a.i)) c.no_set.ensures
-    (answer_out a.f.now (layout_by a.l) (ask_table a.i) (sym n.ensures ∙ not-true n.result c.if-not-is_among.true-raw))
-
-pub returns-then-not-o : goal.returns-then-not-o
-returns-then-not-o c =
-    let a = c.args in
-    let q = c.edition_in-o in
-    let n = c.is_among in
-    set_as _ (refused 17) (answer_of a.f.now (layout_by a.l) (ask_table a.i)) c.no_set-then-not-o.ensures
-    (answer_shut a.f.now (layout_by a.l) (ask_table a.i) q.result q.ensures (sym n.ensures ∙ not-false n.result c.if-not-is_among.false-raw) (not-true q.result.there c.if-not-o.true))
+    let p = err_from_is_err_and c.from_residual.result c.from_residual.ensures.1 in
+    rw (p.1, p.2) (tells_refused a.f.now (layout_by a.l) (ask_table a.i) set_by (λ n. refl) _ (rw c.is_among.ensures at c.in_err-o.ensures))
 
 pub set_in-requires : goal.set_in-requires
 set_in-requires c =
     let a = c.args in
-    let q = c.edition_in-o in
-    omega (arith, (edition_widths a.l.edition a.l.order q.result q.ensures (not-false q.result.there c.if-not-o.false)).name_most)
+    let q = is_open a.f.now (layout_by a.l) (ask_table a.i) c.in_ok-o.o (rw c.is_among.ensures at c.in_ok-o.ensures) in
+    omega (arith, (edition_widths a.l.edition a.l.order c.in_ok-o.o q).name_most)
 
 pub returns : goal.returns
 returns c =
     let a = c.args in
-    let q = c.edition_in-o in
-    let n = c.is_among in
-    set_as _ _ (answer_of a.f.now (layout_by a.l) (ask_table a.i)) c.set_in.ensures
-    (set_open a.f.now (layout_by a.l) a.i q.result q.ensures (sym n.ensures ∙ not-false n.result c.if-not-is_among.false-raw) (not-false q.result.there c.if-not-o.false))
+    set_told a.f.now (layout_by a.l) a.i c.in_ok-o.o (rw c.is_among.ensures at c.in_ok-o.ensures) c.set_in.ensures

@@ -1,38 +1,19 @@
+use mathlib.Core.Path.{sym, ap, ◌∙◌}
+use Rattle.std.specs.Prelude.{None, Some, Ok, Err}
 use Rattle.checking.specs.Checks.{layout_by}
-use Rattle.questions.specs.Ask.{answer_of, ask_words}
 use Rattle.label_words.proofs.WordLaws.{words_lent}
-use Rattle.label_words.proofs.ShownLaws.{shown_refused, shown_part, shown_plain}
+use Rattle.label_words.proofs.ShownLaws.{words_shown}
 use Rattle.label_words.proofs.words.Goals as goal
 
--- src/lib.rt:372:9
-pub returns-then-w-ne0 : goal.returns-then-w-ne0
-returns-then-w-ne0 c =
+pub returns-in-Ok-Some : goal.returns-in-Ok-Some
+returns-in-Ok-Some c =
     let a = c.args in
-    let f = a.file.now in
-    let t = a.plain.now in
-    let A = answer_of f (layout_by a.l) (ask_words a.i a.j t) in
-    let w = c.label_words-w.result in
-    let W = words_lent f (layout_by a.l) a.i a.j w c.label_words-w.ensures t in
-    shown_refused f t w A W c.if-w-ne0.true
+    c.part_at.ensures ∙ words_shown a.file.now a.plain.now (Ok (Some c.in-Ok-Some.part)) _ (words_lent a.file.now (layout_by a.l) a.i a.j _ (ap Ok (sym c.in-Ok-Some.field-0-is) ∙ c.in-Ok-Some.ensures) a.plain.now)
 
--- src/lib.rt:375:9
-pub returns-then-w : goal.returns-then-w
-returns-then-w c =
-    let a = c.args in
-    let f = a.file.now in
-    let t = a.plain.now in
-    let A = answer_of f (layout_by a.l) (ask_words a.i a.j t) in
-    let w = c.label_words-w.result in
-    let W = words_lent f (layout_by a.l) a.i a.j w c.label_words-w.ensures t in
-    shown_part f t w A W c.if-w-ne0.false c.if-w.true _ c.part_at.ensures
+pub returns-in-Ok-None : goal.returns-in-Ok-None
+returns-in-Ok-None c =
+    let a = c.args in words_shown a.file.now a.plain.now (Ok None) _ (words_lent a.file.now (layout_by a.l) a.i a.j _ (ap Ok (sym c.in-Ok-None.field-0-is) ∙ c.in-Ok-None.ensures) a.plain.now)
 
--- src/lib.rt:367:1
-pub returns : goal.returns
-returns c =
-    let a = c.args in
-    let f = a.file.now in
-    let t = a.plain.now in
-    let A = answer_of f (layout_by a.l) (ask_words a.i a.j t) in
-    let w = c.label_words-w.result in
-    let W = words_lent f (layout_by a.l) a.i a.j w c.label_words-w.ensures t in
-    shown_plain f t w A W c.if-w-ne0.false c.if-w.false
+pub returns-in-Err : goal.returns-in-Err
+returns-in-Err c =
+    let a = c.args in words_shown a.file.now a.plain.now (Err c.in-Err.field-0) _ (words_lent a.file.now (layout_by a.l) a.i a.j _ c.in-Err.ensures a.plain.now)

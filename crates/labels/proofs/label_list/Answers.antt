@@ -1,3 +1,4 @@
+use Rattle.section.proofs.StepLaws.{exit_judged}
 use Rattle.format.specs.Number.{order_by}
 use Rattle.format.specs.Grammar.{tag}
 use Rattle.format.specs.Edition.{opening, n_value_labels}
@@ -7,22 +8,20 @@ use Rattle.labels.specs.Parts.{block_walk}
 use Rattle.labels.proofs.BlockLaws.{list_told}
 use Rattle.labels.proofs.label_list.Goals as goal
 
--- src/lib.rt:220:9
-pub returns-then-a-ne0 : goal.returns-then-a-ne0
-returns-then-a-ne0 c =
+pub returns-in_err-at : goal.returns-in_err-at
+returns-in_err-at c =
     let a = c.args in
     let f = a.f.now in
     let t = a.tagged in
     let o = order_by a.msf in
-    let A = tag_by 4 f a.p _ (opening_by t n_value_labels) c.tag_if-a.ensures in
-    list_told t o a.w f a.p _ (seq_refused (tag (opening t n_value_labels) 4) (λ x. block_walk t o a.w) f a.p _ A c.if-a-ne0.true)
+    let A = tag_by 4 f a.p _ (opening_by t n_value_labels) c.in_err-at.ensures in
+    exit_judged _ c.from_residual.ensures.1 (list_told t o a.w f a.p _ (seq_refused (tag (opening t n_value_labels) 4) (λ x. block_walk t o a.w) f a.p _ A))
 
--- src/lib.rt:214:1
 pub returns : goal.returns
 returns c =
     let a = c.args in
     let f = a.f.now in
     let t = a.tagged in
     let o = order_by a.msf in
-    let A = tag_by 4 f a.p _ (opening_by t n_value_labels) c.tag_if-a.ensures in
-    list_told t o a.w f a.p _ (seq_on (tag (opening t n_value_labels) 4) (λ x. block_walk t o a.w) f a.p _ A c.if-a-ne0.false _ c.block_list.ensures)
+    let A = tag_by 4 f a.p _ (opening_by t n_value_labels) c.in_ok-at.ensures in
+    list_told t o a.w f a.p _ (seq_on (tag (opening t n_value_labels) 4) (λ x. block_walk t o a.w) f a.p _ A _ c.block_list.ensures)

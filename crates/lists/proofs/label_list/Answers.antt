@@ -2,7 +2,6 @@ use Rattle.format.specs.Edition.{n_variable_labels}
 use Rattle.lists.proofs.ListLaws.{fields_judged}
 use Rattle.lists.proofs.label_list.Goals as goal
 
--- src/lib.rt:64:1
 pub returns : goal.returns
 returns c =
     let a = c.args in

@@ -1,77 +1,52 @@
+use Rattle.std.proofs.lemmas.Result.{err_from_is_err_and}
 use Rattle.format.specs.Number.{order_by}
 use Rattle.editions.specs.Editions.{numbers_of}
 use Rattle.lists.proofs.ListLaws.{types_refused, names_refused, sort_refused, formats_refused, sets_refused, labels_refused, lists_met}
 use Rattle.lists.proofs.list_parts.Goals as goal
 
--- src/lib.rt:79:9
-pub returns-then-t-ne0 : goal.returns-then-t-ne0
-returns-then-t-ne0 c =
+pub returns-in_err-types : goal.returns-in_err-types
+returns-in_err-types c =
     let a = c.args in
-    let e = numbers_of a.e in
-    let o = order_by a.msf in
-    let f = a.f.now in
-    rw c.refused.ensures (types_refused e o a.k f a.p a.places c.type_list-t.ensures c.if-t-ne0.true)
+    let p = err_from_is_err_and c.from_residual.result c.from_residual.ensures.1 in
+    rw (p.1, p.2) (types_refused (numbers_of a.e) (order_by a.msf) a.k a.f.now a.p c.in_err-types.ensures)
 
--- src/lib.rt:84:9
-pub returns-then-n-ne0 : goal.returns-then-n-ne0
-returns-then-n-ne0 c =
+pub returns-in_err-names : goal.returns-in_err-names
+returns-in_err-names c =
     let a = c.args in
-    let e = numbers_of a.e in
-    let o = order_by a.msf in
-    let f = a.f.now in
-    rw c.refused-then-n-ne0.ensures (names_refused e o a.k f a.p a.places c.type_list-t.ensures c.if-t-ne0.false c.name_list-n.ensures c.if-n-ne0.true)
+    let p = err_from_is_err_and c.from_residual-in_err-names.result c.from_residual-in_err-names.ensures.1 in
+    rw (p.1, p.2) (names_refused (numbers_of a.e) (order_by a.msf) a.k a.f.now a.p c.in_ok-types.ensures c.in_err-names.ensures)
 
--- src/lib.rt:89:9
-pub returns-then-s-ne0 : goal.returns-then-s-ne0
-returns-then-s-ne0 c =
+pub returns-in_err-sorted : goal.returns-in_err-sorted
+returns-in_err-sorted c =
     let a = c.args in
-    let e = numbers_of a.e in
-    let o = order_by a.msf in
-    let f = a.f.now in
-    rw c.refused-then-s-ne0.ensures (sort_refused e o a.k f a.p a.places c.type_list-t.ensures c.if-t-ne0.false c.name_list-n.ensures c.if-n-ne0.false c.sort_list-s.ensures c.if-s-ne0.true)
+    let p = err_from_is_err_and c.from_residual-in_err-sorted.result c.from_residual-in_err-sorted.ensures.1 in
+    rw (p.1, p.2) (sort_refused (numbers_of a.e) (order_by a.msf) a.k a.f.now a.p c.in_ok-types.ensures c.in_ok-names.ensures c.in_err-sorted.ensures)
 
--- src/lib.rt:94:9
-pub returns-then-d-ne0 : goal.returns-then-d-ne0
-returns-then-d-ne0 c =
+pub returns-in_err-formats : goal.returns-in_err-formats
+returns-in_err-formats c =
     let a = c.args in
-    let e = numbers_of a.e in
-    let o = order_by a.msf in
-    let f = a.f.now in
-    rw c.refused-then-d-ne0.ensures (formats_refused e o a.k f a.p a.places c.type_list-t.ensures c.if-t-ne0.false c.name_list-n.ensures c.if-n-ne0.false c.sort_list-s.ensures c.if-s-ne0.false c.format_list-d.ensures c.if-d-ne0.true)
+    let p = err_from_is_err_and c.from_residual-in_err-formats.result c.from_residual-in_err-formats.ensures.1 in
+    rw (p.1, p.2)
+    (formats_refused (numbers_of a.e) (order_by a.msf) a.k a.f.now a.p c.in_ok-types.ensures c.in_ok-names.ensures c.in_ok-sorted.ensures c.in_err-formats.ensures)
 
--- src/lib.rt:97:9
-pub set_list-v-requires : goal.set_list-v-requires
-set_list-v-requires c =
-    (c.format_list-d.ensures.inside, c.requires.1, c.requires.2.names)
-
--- src/lib.rt:99:9
-pub returns-then-v-ne0 : goal.returns-then-v-ne0
-returns-then-v-ne0 c =
+pub returns-in_err-sets : goal.returns-in_err-sets
+returns-in_err-sets c =
     let a = c.args in
-    let e = numbers_of a.e in
-    let o = order_by a.msf in
-    let f = a.f.now in
-    rw c.refused-then-v-ne0.ensures (sets_refused e o a.k f a.p a.places c.type_list-t.ensures c.if-t-ne0.false c.name_list-n.ensures c.if-n-ne0.false c.sort_list-s.ensures c.if-s-ne0.false c.format_list-d.ensures c.if-d-ne0.false c.set_list-v.ensures c.if-v-ne0.true)
+    let p = err_from_is_err_and c.from_residual-in_err-sets.result c.from_residual-in_err-sets.ensures.1 in
+    rw (p.1, p.2)
+    (sets_refused (numbers_of a.e) (order_by a.msf) a.k a.f.now a.p c.in_ok-types.ensures c.in_ok-names.ensures c.in_ok-sorted.ensures c.in_ok-formats.ensures
+    c.in_err-sets.ensures)
 
--- src/lib.rt:102:9
-pub label_list-l-requires : goal.label_list-l-requires
-label_list-l-requires c =
-    (c.set_list-v.ensures.inside, c.requires.1, c.requires.2.labels)
-
--- src/lib.rt:104:9
-pub returns-then-l-ne0 : goal.returns-then-l-ne0
-returns-then-l-ne0 c =
+pub returns-in_err-labels : goal.returns-in_err-labels
+returns-in_err-labels c =
     let a = c.args in
-    let e = numbers_of a.e in
-    let o = order_by a.msf in
-    let f = a.f.now in
-    rw c.refused-then-l-ne0.ensures (labels_refused e o a.k f a.p a.places c.type_list-t.ensures c.if-t-ne0.false c.name_list-n.ensures c.if-n-ne0.false c.sort_list-s.ensures c.if-s-ne0.false c.format_list-d.ensures c.if-d-ne0.false c.set_list-v.ensures c.if-v-ne0.false c.label_list-l.ensures c.if-l-ne0.true)
+    let p = err_from_is_err_and c.from_residual-in_err-labels.result c.from_residual-in_err-labels.ensures.1 in
+    rw (p.1, p.2)
+    (labels_refused (numbers_of a.e) (order_by a.msf) a.k a.f.now a.p c.in_ok-types.ensures c.in_ok-names.ensures c.in_ok-sorted.ensures c.in_ok-formats.ensures
+    c.in_ok-sets.ensures c.in_err-labels.ensures)
 
--- src/lib.rt:66:1
 pub returns : goal.returns
 returns c =
     let a = c.args in
-    let e = numbers_of a.e in
-    let o = order_by a.msf in
-    let f = a.f.now in
-    lists_met e o a.k f a.p a.places c.type_list-t.ensures c.if-t-ne0.false c.name_list-n.ensures c.if-n-ne0.false c.sort_list-s.ensures c.if-s-ne0.false c.format_list-d.ensures c.if-d-ne0.false c.set_list-v.ensures c.if-v-ne0.false c.label_list-l.ensures c.if-l-ne0.false
+    lists_met (numbers_of a.e) (order_by a.msf) a.k a.f.now a.p c.in_ok-types.ensures c.in_ok-names.ensures c.in_ok-sorted.ensures c.in_ok-formats.ensures
+    c.in_ok-sets.ensures c.in_ok-labels.ensures

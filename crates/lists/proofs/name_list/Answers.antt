@@ -1,7 +1,6 @@
 use Rattle.lists.proofs.ListLaws.{names_judged}
 use Rattle.lists.proofs.name_list.Goals as goal
 
--- src/lib.rt:39:1
 pub returns : goal.returns
 returns c =
     let a = c.args in

@@ -2,7 +2,6 @@ use Rattle.format.specs.Edition.{n_value_label_names}
 use Rattle.lists.proofs.ListLaws.{fields_judged}
 use Rattle.lists.proofs.set_list.Goals as goal
 
--- src/lib.rt:55:1
 pub returns : goal.returns
 returns c =
     let a = c.args in

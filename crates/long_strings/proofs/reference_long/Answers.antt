@@ -1,5 +1,5 @@
 use mathlib.Core.Path.{◌≡◌, refl, sym, ◌∙◌}
-use Prim.Native.Nat.{◌+◌, ◌-◌}
+use Prim.Native.Nat.{◌+◌}
 use native.Mathlib.Omega.{arith}
 use lib.ListN.{get_or}
 use Rattle.format.specs.Number.{order_by}
@@ -26,7 +26,7 @@ returns-then-is_empty c =
     let v = a.v in
     let x = a.x in
     let A = long_said e o f l (reference v x) in
-    long_alone A (long 0 0 0) _ c.no_long.ensures (long_empty e o f l v x (sym c.is_empty.ensures ∙ c.if-is_empty.true))
+    long_alone A (long 0 0 0) _ refl (long_empty e o f l v x (sym c.is_empty.ensures ∙ c.if-is_empty.true))
 
 -- src/lib.rt:268:9
 pub returns-then-end-l : goal.returns-then-end-l
@@ -42,7 +42,7 @@ returns-then-end-l c =
     let h = sym c.is_empty.ensures ∙ c.if-is_empty.false in
     let z = c.less-end.result in
     let Z : z ≡ end_of e.tagged l 10 n_strls = end_is e.tagged n_strls 8 (get_or a.l.places 11 0) c.tag_size.result z refl c.tag_size.ensures c.less-end.ensures.0 in
-    long_alone A (refused 17) _ c.no_long-then-end-l.ensures (long_past e o f l v x h (start_of e.tagged l 10 n_strls) z refl Z (omega (arith, c.if-end-l.true)))
+    long_alone A (refused 17) _ refl (long_past e o f l v x h (start_of e.tagged l 10 n_strls) z refl Z (omega (arith, c.if-end-l.true)))
 
 -- src/lib.rt:270:14
 pub overflow_add-p : goal.overflow_add-p
@@ -77,7 +77,7 @@ returns-then-f-p c =
     let Z : z ≡ end_of e.tagged l 10 n_strls = end_is e.tagged n_strls 8 (get_or a.l.places 11 0) c.tag_size.result z refl c.tag_size.ensures c.less-end.ensures.0 in
     let p = get_or a.l.places 10 0 + c.tag_size-2.result in
     let P : p ≡ start_of e.tagged l 10 n_strls = start_is e.tagged n_strls 7 (get_or a.l.places 10 0) c.tag_size-2.result refl c.tag_size-2.ensures in
-    long_alone A (refused 17) _ c.no_long-then-f-p.ensures (long_out e o f l v x h p z P Z c.if-f-p.true)
+    long_alone A (refused 17) _ refl (long_out e o f l v x h p z P Z c.if-f-p.true)
 
 -- src/lib.rt:259:1
 pub returns : goal.returns

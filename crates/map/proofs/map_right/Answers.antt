@@ -1,27 +1,20 @@
+use mathlib.Core.Path.{ap, ◌∙◌}
+use mathlib.Core.Bool.{not}
 use Rattle.format.specs.Number.{order_by}
 use Rattle.map.proofs.MapLaws.{map_inside, map_tagged, map_untagged}
 use Rattle.map.proofs.map_right.Goals as goal
 
--- src/lib.rt:57:9
 pub map_same-requires : goal.map_same-requires
 map_same-requires c =
     let a = c.args in
-    let o = order_by a.msf in
-    let f = a.f.now in
-    (map_inside f a.p o a.tagged c.if-tagged.true c.requires.0, c.requires.1)
+    (map_inside a.f.now a.p (order_by a.msf) a.tagged c.if-not-tagged.false c.requires.0, c.requires.1)
 
--- src/lib.rt:52:1
-pub returns-then-tagged : goal.returns-then-tagged
-returns-then-tagged c =
+pub returns-then-not-tagged : goal.returns-then-not-tagged
+returns-then-not-tagged c =
     let a = c.args in
-    let o = order_by a.msf in
-    let f = a.f.now in
-    map_tagged f a.p o a.tagged c.if-tagged.true _ _ c.map_same.ensures
+    ap not c.if-not-tagged.true ∙ map_untagged a.f.now a.p (order_by a.msf) a.tagged c.if-not-tagged.true a.places
 
--- src/lib.rt:52:1
-pub returns-else-tagged : goal.returns-else-tagged
-returns-else-tagged c =
+pub returns-else-not-tagged : goal.returns-else-not-tagged
+returns-else-not-tagged c =
     let a = c.args in
-    let o = order_by a.msf in
-    let f = a.f.now in
-    map_untagged f a.p o a.tagged c.if-tagged.false _
+    map_tagged a.f.now a.p (order_by a.msf) a.tagged c.if-not-tagged.false _ _ c.map_same.ensures

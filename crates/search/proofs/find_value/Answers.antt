@@ -1,36 +1,22 @@
 use mathlib.Core.Path.{◌≡◌, refl, sym, ap, ◌∙◌, subst}
 use mathlib.Core.Bool.{true, false}
-use mathlib.Core.List.{List}
-use Prim.Native.Nat.{ℕ}
-use Prim.Native.Nat.{◌-◌}
-use borrow.Author.Tests.{le-leb, lt-leb}
+use borrow.Author.Tests.{le-leb}
 use lib.IntN.{ℤ}
 use lib.Signed.{lt_z}
 use mir.Syntax.{w32}
 use mir.Val.{to_z, of_z}
 use mir.ValLaws.{to_z-of_z}
-use Rattle.format.specs.Number.{Order, order_by}
-use Rattle.format.specs.Search.{Slot, value_at, search_at, same_z}
-use Rattle.format.proofs.OrderLaws.{same_yes, same_no}
+use Rattle.format.specs.Number.{order_by}
+use Rattle.format.specs.Search.{value_at, search_at, same_z}
+use Rattle.format.proofs.OrderLaws.{same_no}
 use Rattle.format.proofs.SearchLaws.{middle}
-use Rattle.search.proofs.TurnLaws.{none, gone, here, below, above}
+use Rattle.search.proofs.TurnLaws.{below, above}
 use borrow.Author.Rules.{rules}
 use Rattle.search.proofs.find_value.Goals as goal
-
--- where the search ends, for the number sought itself
-ends : (o : Order) (f : List ℕ) (p e n : ℕ) {z x : ℤ} {s : Slot} → (search_at o f p e n z).slot ≡ s → z ≡ x → s ≡ (search_at o f p e n x).slot
-ends o f p e n h k = sym h ∙ ap (λ (z : ℤ). (search_at o f p e n z).slot) k
 
 pub loop-lo-init : goal.loop-lo-init
 unfolding search_at
 loop-lo-init c = (search rules, record { turns = c.args.n; enough = search rules; rest = refl })
-
-pub returns-then-end-q : goal.returns-then-end-q
-returns-then-end-q c = ends _ _ _ _ _ (gone c.loop-lo.invariant.1 c.loop-lo-test.true (lt-leb _ _ c.if-end-q.true)) (to_z-of_z w32 c.args.sought c.ranges.sought)
-
-pub returns-then-sought-value : goal.returns-then-sought-value
-returns-then-sought-value c = ends _ _ _ _ _ (here c.loop-lo.invariant.1 c.loop-lo-test.true (le-leb _ _ c.if-end-q.false) (same_yes (ap (to_z w32) c.if-sought-value.true ∙ (let it : to_z w32 (of_z w32 c.value_at-value.result) ≡ (let a = c.args in
-    value_at (order_by a.msf) a.f.now a.p (middle c.loop-lo.lo c.loop-lo.hi)) = to_z-of_z w32 c.value_at-value.result (record { sfits = c.value_at-value.type_inv }) ∙ c.value_at-value.ensures in it)))) (to_z-of_z w32 c.args.sought c.ranges.sought)
 
 pub loop-lo-preserved-then-sought-value-2 : goal.loop-lo-preserved-then-sought-value-2
 loop-lo-preserved-then-sought-value-2 c = (
@@ -51,6 +37,3 @@ loop-lo-preserved c = (
       (subst (λ (z : ℤ). lt_z ((to_z w32 (of_z w32 c.args.sought))) z ≡ false) ((let it : to_z w32 (of_z w32 c.value_at-value.result) ≡ (let a = c.args in
       value_at (order_by a.msf) a.f.now a.p (middle c.loop-lo.lo c.loop-lo.hi)) = to_z-of_z w32 c.value_at-value.result (record { sfits = c.value_at-value.type_inv }) ∙ c.value_at-value.ensures in it)) c.if-sought-value-2.false),
 )
-
-pub returns : goal.returns
-returns c = ends _ _ _ _ _ (none c.loop-lo.invariant.1 c.loop-lo-test.false) (to_z-of_z w32 c.args.sought c.ranges.sought)

@@ -2,7 +2,7 @@ use Prim.Native.Nat.{◌+◌, ◌-◌, ◌*◌, ◌≤◌}
 use lib.Dec.{leb}
 use Rattle.format.specs.Number.{order_by}
 use Rattle.format.specs.Search.{value_at, search_at}
-use Rattle.search.proofs.TurnLaws.{Left, below}
+use Rattle.search.proofs.TurnLaws.{Left}
 use Rattle.search.proofs.find_value.Given as goal
 
 -- the search has come to the values from lo on, below hi

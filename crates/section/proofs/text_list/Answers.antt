@@ -4,77 +4,36 @@ use mathlib.Core.List.{[]}
 use Prim.Native.Nat.{◌*◌}
 use native.Mathlib.Nat.{mul-le-mul}
 use native.Mathlib.Omega.{arith}
+use Rattle.std.proofs.lemmas.Result.{err_from_is_err_and}
 use Rattle.format.specs.Grammar.{times}
 use Rattle.format.proofs.StepLaws.{times_next}
 use Rattle.section.specs.Judged.{field}
 use Rattle.section.proofs.FieldLaws.{field_size}
-use Rattle.section.proofs.PartLaws.{open_refused, open_room, close_judged}
+use Rattle.section.proofs.PartLaws.{open_refused, open_room, content_refused, close_judged}
 use Rattle.section.proofs.text_list.Goals as goal
 
--- src/lib.rt:103:13
 pub overflow_mul-n : goal.overflow_mul-n
-overflow_mul-n c =
-    omega (arith, mul-le-mul c.requires.1 c.requires.2)
+overflow_mul-n c = omega (arith, mul-le-mul c.requires.1 c.requires.2)
 
--- src/lib.rt:106:9
-pub returns-then-a-ne0 : goal.returns-then-a-ne0
-returns-then-a-ne0 c =
+pub returns-in_err-at : goal.returns-in_err-at
+returns-in_err-at c =
     let a = c.args in
-    let f = a.f.now in
-    let l = cond a.tagged a.first.now [] in
-    let r = cond a.tagged a.last.now [] in
-    let F = field a.named a.w in
-    let S = times F a.k in
-    let o = c.opened-a.ensures in
-    open_refused l r (a.k * a.w) S f a.p o c.if-a-ne0.true
+    let p = err_from_is_err_and c.from_residual.result c.from_residual.ensures.1 in
+    rw (p.1, p.2) (open_refused _ _ (a.k * a.w) _ a.f.now a.p _ c.in_err-at.ensures)
 
--- src/lib.rt:108:9
-pub texts-b-requires : goal.texts-b-requires
-texts-b-requires c =
+pub texts-requires : goal.texts-requires
+texts-requires c =
     let a = c.args in
-    let f = a.f.now in
-    let l = cond a.tagged a.first.now [] in
-    let r = cond a.tagged a.last.now [] in
-    let F = field a.named a.w in
-    let S = times F a.k in
-    let o = c.opened-a.ensures in
-    let room = open_room l r (a.k * a.w) S f a.p o c.if-a-ne0.false in
-    room
+    open_room (cond a.tagged a.first.now []) (cond a.tagged a.last.now []) (a.k * a.w) (times (field a.named a.w) a.k) a.f.now a.p c.in_ok-at.ensures
 
--- src/lib.rt:109:15
-pub overflow_add-a : goal.overflow_add-a
-overflow_add-a c =
+pub returns-in_err-texts : goal.returns-in_err-texts
+returns-in_err-texts c =
     let a = c.args in
-    let f = a.f.now in
-    let l = cond a.tagged a.first.now [] in
-    let r = cond a.tagged a.last.now [] in
-    let F = field a.named a.w in
-    let S = times F a.k in
-    let o = c.opened-a.ensures in
-    let room = open_room l r (a.k * a.w) S f a.p o c.if-a-ne0.false in
-    omega arith
+    let p = err_from_is_err_and c.from_residual-in_err-texts.result c.from_residual-in_err-texts.ensures.1 in
+    rw (p.1, p.2) (content_refused _ _ (a.k * a.w) _ a.f.now a.p c.in_ok-at.ensures _ c.in_err-texts.ensures)
 
--- src/lib.rt:109:5
-pub closed-requires : goal.closed-requires
-closed-requires c =
-    let a = c.args in
-    let f = a.f.now in
-    let l = cond a.tagged a.first.now [] in
-    let r = cond a.tagged a.last.now [] in
-    let F = field a.named a.w in
-    let S = times F a.k in
-    let o = c.opened-a.ensures in
-    let room = open_room l r (a.k * a.w) S f a.p o c.if-a-ne0.false in
-    room
-
--- src/lib.rt:90:1
 pub returns : goal.returns
 returns c =
     let a = c.args in
-    let f = a.f.now in
-    let l = cond a.tagged a.first.now [] in
-    let r = cond a.tagged a.last.now [] in
-    let F = field a.named a.w in
-    let S = times F a.k in
-    let o = c.opened-a.ensures in
-    close_judged l r (a.k * a.w) S f a.p o c.if-a-ne0.false _ _ _ c.texts-b.ensures (sym (times_next F a.w (field_size a.named a.w) a.k f c.opened-a.result.at)) c.closed.ensures
+    close_judged (cond a.tagged a.first.now []) (cond a.tagged a.last.now []) (a.k * a.w) (times (field a.named a.w) a.k) a.f.now a.p c.in_ok-at.ensures
+    _ _ c.in_ok-texts.ensures (sym (times_next (field a.named a.w) a.w (field_size a.named a.w) a.k a.f.now c.in_ok-at.at)) c.tag_if.ensures

@@ -5,8 +5,5 @@ use Rattle.format.specs.Grammar.{judge_times}
 use Rattle.section.specs.Judged.{field}
 use Rattle.section.proofs.texts.Given as goal
 
-abbrev pub invariant-loop-i : goal.invariant-loop-i
-invariant-loop-i l = (l.i ≤ l.k) × (l.q + (l.k - l.i) * l.w ≤ length l.f) × (judge_times (field l.named l.w) (l.k - l.i) l.f l.q ≡ judge_times (field l.named l.w) l.k l.f l.p)
-
-abbrev pub decreases-loop-i : goal.decreases-loop-i
-decreases-loop-i l = l.k - l.i
+abbrev pub invariant-loop : goal.invariant-loop
+invariant-loop l = (l.q + (l.k - l.counter) * l.w ≤ length l.f) × (judge_times (field l.named l.w) (l.k - l.counter) l.f l.q ≡ judge_times (field l.named l.w) l.k l.f l.p)

@@ -1,4 +1,3 @@
-use Prim.Native.Nat.{◌-◌}
 use native.Mathlib.Omega.{arith}
 use Rattle.questions.specs.Ask.{slice}
 use Rattle.set_names.proofs.ListedLaws.{named_less, halved_start, halved_end, halved_up, halved_down}
@@ -13,7 +12,7 @@ pub loop-low-preserved-then-is_less : goal.loop-low-preserved-then-is_less
 loop-low-preserved-then-is_less c =
     let a = c.args in
     halved_up _ _ _ _ c.loop-low.invariant c.requires.0 _ (omega arith) (omega arith) _
-    (named_less c.name_of-x.ensures (slice a.f.now a.a a.n) _ c.is_less.ensures)
+    (named_less c.name_of-name.ensures (slice a.f.now a.text.at a.text.len) _ c.is_less.ensures)
     c.if-is_less.true
 
 -- src/lib.rt:69:5
@@ -21,7 +20,7 @@ pub loop-low-preserved : goal.loop-low-preserved
 loop-low-preserved c =
     let a = c.args in
     halved_down _ _ _ _ c.loop-low.invariant c.requires.0 _ (omega arith) (omega arith) _
-    (named_less c.name_of-x.ensures (slice a.f.now a.a a.n) _ c.is_less.ensures)
+    (named_less c.name_of-name.ensures (slice a.f.now a.text.at a.text.len) _ c.is_less.ensures)
     c.if-is_less.false
 
 -- src/lib.rt:63:1

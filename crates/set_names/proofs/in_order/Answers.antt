@@ -1,4 +1,3 @@
-use Prim.Native.Nat.{◌-◌}
 use Rattle.set_names.proofs.ListedLaws.{names_less, ordered_start, ordered_end, ordered_more, ordered_not}
 use Rattle.set_names.proofs.in_order.Goals as goal
 

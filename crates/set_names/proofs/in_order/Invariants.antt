@@ -1,11 +1,6 @@
-use Prim.Native.Nat.{◌-◌}
-use lib.ListN.{length}
 use Rattle.checking.specs.Checks.{layout_by}
 use Rattle.set_names.proofs.ListedLaws.{Ordered}
 use Rattle.set_names.proofs.in_order.Given as goal
 
 abbrev pub invariant-loop-k : goal.invariant-loop-k
 invariant-loop-k l = Ordered l.f (layout_by l.l) l.v l.k
-
-abbrev pub decreases-loop-k : goal.decreases-loop-k
-decreases-loop-k l = length l.v - l.k

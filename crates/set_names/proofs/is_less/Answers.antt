@@ -1,23 +1,12 @@
-use Prim.Native.Nat.{◌-◌}
-use Rattle.set_names.proofs.CompareLaws.{compared_start, compared_end, compared_short, compared_differ, compared_next}
+use mathlib.Core.Path.{◌≡◌, ◌∙◌}
+use Rattle.questions.specs.Ask.{slice}
+use borrow.Author.Tests.{le-leb}
+use Rattle.set_names.proofs.CompareLaws.{before_less}
 use Rattle.set_names.proofs.is_less.Goals as goal
 
--- src/lib.rt:34:5
-pub loop-k-init : goal.loop-k-init
-loop-k-init c = compared_start _ _ _ _ _
-
--- src/lib.rt:36:13
-pub returns-then-n-k : goal.returns-then-n-k
-returns-then-n-k c = compared_short _ _ _ _ _ _ c.loop-k.invariant c.loop-k-test.true c.requires.1 c.if-n-k.true
-
--- src/lib.rt:39:13
-pub returns-then-f-a : goal.returns-then-f-a
-returns-then-f-a c = compared_differ _ _ _ _ _ _ c.loop-k.invariant c.loop-k-test.true c.requires.1 c.if-n-k.false c.requires.0 c.if-f-a.true
-
--- src/lib.rt:34:5
-pub loop-k-preserved : goal.loop-k-preserved
-loop-k-preserved c = compared_next _ _ _ _ _ _ c.loop-k.invariant c.loop-k-test.true c.requires.1 c.if-n-k.false c.requires.0 c.if-f-a.false
-
--- src/lib.rt:29:1
 pub returns : goal.returns
-returns c = compared_end _ _ _ _ _ _ c.loop-k.invariant c.loop-k-test.false
+returns c =
+    let a = c.args in
+    let x : c.part_of.result.now ≡ slice a.f.now a.a.at a.a.len = c.part_of.ensures ∙ rw (le-leb _ _ c.requires.0) in
+    let y : c.part_of-2.result.now ≡ slice a.f.now a.b.at a.b.len = c.part_of-2.ensures ∙ rw (le-leb _ _ c.requires.1) in
+    rw (x, y) at (before_less c.part_of.result.now c.part_of-2.result.now _ c.lt.ensures)

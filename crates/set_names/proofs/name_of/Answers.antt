@@ -1,6 +1,7 @@
+use mathlib.Core.Path.{ap, ◌∙◌}
+use Rattle.set_names.specs.Names.{name_by}
 use Rattle.set_names.proofs.NameLaws.{set_named}
 use Rattle.set_names.proofs.name_of.Goals as goal
 
--- src/lib.rt:18:1
 pub returns : goal.returns
-returns c = set_named _ _ _ _ c.set_name-p.ensures
+returns c = set_named _ _ _ _ (c.unwrap_or.ensures ∙ ap name_by c.set_name.ensures)

@@ -5,7 +5,7 @@ use Rattle.set_tables.proofs.PassLaws.{Going}
 use Rattle.set_tables.proofs.pass.Given as goal
 
 abbrev pub invariant-loop-p : goal.invariant-loop-p
-invariant-loop-p l = Going l.tagged l.w (order_by l.msf) l.f (layout_by l.l) l.v l.end l.start l.initial.t l.p l.t
+invariant-loop-p l = Going l.o.e.tagged l.o.e.name_width (order_by l.o.msf) l.f (layout_by l.l) l.v l.end l.start l.initial.t l.p l.t
 
 abbrev pub decreases-loop-p : goal.decreases-loop-p
 decreases-loop-p l = l.end - l.p

@@ -1,11 +1,6 @@
-use Prim.Native.Nat.{◌-◌}
-use lib.ListN.{length}
 use Rattle.checking.specs.Checks.{layout_by}
 use Rattle.set_tables.proofs.StartLaws.{Starting}
 use Rattle.set_tables.proofs.start_numbers.Given as goal
 
 abbrev pub invariant-loop-k : goal.invariant-loop-k
 invariant-loop-k l = Starting l.f (layout_by l.l) l.v l.k l.t
-
-abbrev pub decreases-loop-k : goal.decreases-loop-k
-decreases-loop-k l = length l.v - l.k

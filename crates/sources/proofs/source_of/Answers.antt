@@ -1,60 +1,68 @@
 use mathlib.Core.Path.{ap}
 use native.Mathlib.Omega.{arith}
+use lib.Dec.{eqb}
 use Rattle.format.specs.Slot.{Bytes}
 use Rattle.answers.specs.declared.Part.{Part}
 use Rattle.format.specs.Edition.{n_variable_types, n_varnames, n_sortlist, n_formats, n_value_label_names, n_variable_labels, n_data, n_strls, n_value_labels}
-use Rattle.sources.proofs.HeadParts.{place_small, longs_tag, blocks_tag, label_told, label_part_lem, stamp_told, stamp_part, started, ended, end_room, k_own, n_own}
+use Rattle.sources.proofs.HeadParts.{place_small, longs_tag, blocks_tag, label_answer, label_told, label_part_lem, stamp_answer, stamp_told, stamp_part, started, ended, end_room, opened_own, k_own, n_own}
 use Rattle.sources.proofs.source_of.Goals as goal
 
 pub start-requires : goal.start-requires
-start-requires c = (place_small c.args.f.now (λ i. omega (arith, c.shared_slice_known-1.given i)) c.args.l c.requires.0 2, omega arith)
+start-requires c = (place_small c.args.f.now (λ i. omega (arith, c.shared_slice_known-1.given i)) c.args.l c.requires 2, omega arith)
 
 pub start-requires-2 : goal.start-requires-2
-start-requires-2 c = (place_small c.args.f.now (λ i. omega (arith, c.shared_slice_known-1.given i)) c.args.l c.requires.0 3, omega arith)
+start-requires-2 c = (place_small c.args.f.now (λ i. omega (arith, c.shared_slice_known-1.given i)) c.args.l c.requires 3, omega arith)
 
 pub start-requires-3 : goal.start-requires-3
-start-requires-3 c = (place_small c.args.f.now (λ i. omega (arith, c.shared_slice_known-1.given i)) c.args.l c.requires.0 4, omega arith)
+start-requires-3 c = (place_small c.args.f.now (λ i. omega (arith, c.shared_slice_known-1.given i)) c.args.l c.requires 4, omega arith)
 
 pub start-requires-4 : goal.start-requires-4
-start-requires-4 c = (place_small c.args.f.now (λ i. omega (arith, c.shared_slice_known-1.given i)) c.args.l c.requires.0 5, omega arith)
+start-requires-4 c = (place_small c.args.f.now (λ i. omega (arith, c.shared_slice_known-1.given i)) c.args.l c.requires 5, omega arith)
 
 pub start-requires-5 : goal.start-requires-5
-start-requires-5 c = (place_small c.args.f.now (λ i. omega (arith, c.shared_slice_known-1.given i)) c.args.l c.requires.0 6, omega arith)
+start-requires-5 c = (place_small c.args.f.now (λ i. omega (arith, c.shared_slice_known-1.given i)) c.args.l c.requires 6, omega arith)
 
 pub start-requires-6 : goal.start-requires-6
-start-requires-6 c = (place_small c.args.f.now (λ i. omega (arith, c.shared_slice_known-1.given i)) c.args.l c.requires.0 7, omega arith)
+start-requires-6 c = (place_small c.args.f.now (λ i. omega (arith, c.shared_slice_known-1.given i)) c.args.l c.requires 7, omega arith)
 
 pub start-requires-7 : goal.start-requires-7
-start-requires-7 c = (place_small c.args.f.now (λ i. omega (arith, c.shared_slice_known-1.given i)) c.args.l c.requires.0 9, omega arith)
+start-requires-7 c = (place_small c.args.f.now (λ i. omega (arith, c.shared_slice_known-1.given i)) c.args.l c.requires 9, omega arith)
 
 pub start-requires-8 : goal.start-requires-8
-start-requires-8 c = (place_small c.args.f.now (λ i. omega (arith, c.shared_slice_known-1.given i)) c.args.l c.requires.0 10, omega arith)
+start-requires-8 c = (place_small c.args.f.now (λ i. omega (arith, c.shared_slice_known-1.given i)) c.args.l c.requires 10, omega arith)
 
 pub end-requires : goal.end-requires
 end-requires c =
     let u : Bytes c.args.f.now = (λ i. omega (arith, c.shared_slice_known-1.given i)) in
-    (place_small c.args.f.now u c.args.l c.requires.0 11, end_room c.args.f.now u c.args.l c.requires.0 c.args.e c.args.msf c.requires.1 11 n_strls (longs_tag c.args.f.now u c.args.l c.requires.0))
+    (place_small c.args.f.now u c.args.l c.requires 11, end_room c.args.f.now u c.args.l c.requires _ _ (opened_own c.args.f.now c.args.l c.requires _ c.numbers_of-edition.ensures) 11 n_strls (longs_tag c.args.f.now u c.args.l c.requires))
 
 pub start-requires-9 : goal.start-requires-9
-start-requires-9 c = (place_small c.args.f.now (λ i. omega (arith, c.shared_slice_known-1.given i)) c.args.l c.requires.0 11, omega arith)
+start-requires-9 c = (place_small c.args.f.now (λ i. omega (arith, c.shared_slice_known-1.given i)) c.args.l c.requires 11, omega arith)
 
 pub end-requires-2 : goal.end-requires-2
 end-requires-2 c =
     let u : Bytes c.args.f.now = (λ i. omega (arith, c.shared_slice_known-1.given i)) in
-    (place_small c.args.f.now u c.args.l c.requires.0 12, end_room c.args.f.now u c.args.l c.requires.0 c.args.e c.args.msf c.requires.1 12 n_value_labels (blocks_tag c.args.f.now u c.args.l c.requires.0))
+    (place_small c.args.f.now u c.args.l c.requires 12, end_room c.args.f.now u c.args.l c.requires _ _ (opened_own c.args.f.now c.args.l c.requires _ c.numbers_of-edition.ensures) 12 n_value_labels (blocks_tag c.args.f.now u c.args.l c.requires))
+
+pub unwrap-a-requires : goal.unwrap-a-requires
+unwrap-a-requires c = rw (label_answer c.args.f.now (λ i. omega (arith, c.shared_slice_known-1.given i)) c.args.l c.requires c.label.ensures)
+
+pub unwrap-b-requires : goal.unwrap-b-requires
+unwrap-b-requires c = rw (stamp_answer c.args.f.now (λ i. omega (arith, c.shared_slice_known-1.given i)) c.args.l c.requires c.stamp.ensures)
 
 pub returns : goal.returns
 returns c =
     let f = c.args.f.now in
     let u : Bytes f = (λ i. omega (arith, c.shared_slice_known-1.given i)) in
     let l = c.args.l in
-    let own = c.requires.0 in
-    let e = c.args.e in
-    let m = c.args.msf in
-    let op = c.requires.1 in
+    let own = c.requires in
+    let e = c.numbers_of-edition.result in
+    let m = eqb l.order 1 in
+    let op = opened_own f l own e c.numbers_of-edition.ensures in
     record {
-      variables = k_own f u l own e m op;
-      observations = n_own f u l own e m op;
+      opened = op;
+      variables = k_own f l own;
+      observations = n_own f l own;
       types = started f u l own e m op 2 n_variable_types _ c.start.ensures;
       names = started f u l own e m op 3 n_varnames _ c.start-2.ensures;
       sort = started f u l own e m op 4 n_sortlist _ c.start-3.ensures;
@@ -66,8 +74,8 @@ returns c =
       longs_end = ended f u l own e m op 11 n_strls _ c.end.ensures;
       blocks = started f u l own e m op 11 n_value_labels _ c.start-9.ensures;
       blocks_end = ended f u l own e m op 12 n_value_labels _ c.end-2.ensures;
-      label_placed = ap (λ (x : Part). x.at) (label_told f u l own c.label-a.result c.label-a.ensures);
-      label = label_part_lem f u l own c.label-a.result c.label-a.ensures;
-      stamp_placed = ap (λ (x : Part). x.at) (stamp_told f u l own c.stamp-b.result c.stamp-b.ensures);
-      stamp = stamp_part f u l own c.stamp-b.result c.stamp-b.ensures;
+      label_placed = ap (λ (x : Part). x.at) (label_told f u l own c.label.ensures c.unwrap-a.ensures);
+      label = label_part_lem f u l own c.label.ensures c.unwrap-a.ensures;
+      stamp_placed = ap (λ (x : Part). x.at) (stamp_told f u l own c.stamp.ensures c.unwrap-b.ensures);
+      stamp = stamp_part f u l own c.stamp.ensures c.unwrap-b.ensures;
     }

@@ -1,46 +1,25 @@
 use borrow.Author.Tests.{not-true}
-use Rattle.strls.proofs.StrlLaws.{first_refused, records_refused, closed_judged, first_by, none_there}
+use Rattle.std.proofs.lemmas.Result.{err_from_is_err_and}
+use Rattle.strls.proofs.StrlLaws.{first_refused, linked_refused, closed_judged, first_by, none_there}
 use Rattle.strls.proofs.strl_list.Goals as goal
 
 pub returns-then-not-d : goal.returns-then-not-d
 returns-then-not-d c =
+    let a = c.args in none_there a.f.now a.d c.requires.0 (not-true a.d.tagged c.if-not-d.true) a.p c.requires.1
+
+pub returns-in_err-start : goal.returns-in_err-start
+returns-in_err-start c =
     let a = c.args in
-    let f = a.f.now in
-    let F = c.requires.0 in
-    none_there f a.d F (not-true a.d.tagged c.if-not-d.true) a.p c.requires.1
+    let p = err_from_is_err_and c.from_residual.result c.from_residual.ensures.1 in
+    rw (p.1, p.2) (first_refused a.f.now a.d a.p _ (first_by a.f.now a.d a.p _ c.in_err-start.ensures))
 
-pub returns-then-a-ne0 : goal.returns-then-a-ne0
-returns-then-a-ne0 c =
+pub returns-in_err-end : goal.returns-in_err-end
+returns-in_err-end c =
     let a = c.args in
-    let f = a.f.now in
-    let F = c.requires.0 in
-    let A = first_by f a.d a.p c.tag_if-a.result c.tag_if-a.ensures in
-    first_refused f a.d F a.p A c.if-a-ne0.true
-
-pub rule_11-c-requires : goal.rule_11-c-requires
-rule_11-c-requires c =
-    (c.requires.0, c.tag_if-a.ensures.inside)
-
-pub records_by-e-requires : goal.records_by-e-requires
-records_by-e-requires c =
-    (c.tag_if-a.ensures.inside, c.requires.0.record_small, c.rule_11-c.ensures)
-
-pub returns-then-e-ne0 : goal.returns-then-e-ne0
-returns-then-e-ne0 c =
-    let a = c.args in
-    let f = a.f.now in
-    let F = c.requires.0 in
-    let A = first_by f a.d a.p c.tag_if-a.result c.tag_if-a.ensures in
-    records_refused f a.d F a.p A c.if-a-ne0.false c.records_by-e.ensures c.if-e-ne0.true
-
-pub closed-requires : goal.closed-requires
-closed-requires c =
-    c.records_by-e.ensures.inside
+    let p = err_from_is_err_and c.from_residual-in_err-end.result c.from_residual-in_err-end.ensures.1 in
+    rw (p.1, p.2) (linked_refused a.f.now a.d a.p (first_by a.f.now a.d a.p _ c.in_ok-start.ensures) _ c.in_err-end.ensures)
 
 pub returns : goal.returns
 returns c =
     let a = c.args in
-    let f = a.f.now in
-    let F = c.requires.0 in
-    let A = first_by f a.d a.p c.tag_if-a.result c.tag_if-a.ensures in
-    closed_judged f a.d F a.p A c.if-a-ne0.false c.records_by-e.ensures c.if-e-ne0.false c.rule_11-c.ensures.code c.closed.ensures
+    closed_judged a.f.now a.d a.p (first_by a.f.now a.d a.p _ c.in_ok-start.ensures) c.in_ok-end.ensures _ c.tag_if-2.ensures

@@ -1,8 +1,5 @@
-use Prim.Native.Nat.{◌-◌}
 use mathlib.Core.Path.{sym, ◌∙◌}
-use mathlib.Core.Bool.{false}
 use native.Mathlib.Omega.{arith}
-use Rattle.text.specs.Texts.{has_zero}
 use Rattle.text.proofs.TextLaws.{zero_block}
 use Rattle.text.proofs.pass_blocks.Goals as goal
 

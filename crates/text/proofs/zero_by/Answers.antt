@@ -1,8 +1,6 @@
 use Prim.Native.Nat.{◌-◌}
 use mathlib.Core.Path.{sym, ◌∙◌}
-use mathlib.Core.Bool.{false}
 use native.Mathlib.Omega.{arith}
-use Rattle.text.specs.Texts.{has_zero}
 use Rattle.text.proofs.TextLaws.{zero_none, zero_block, zero_found, zero_end}
 use Rattle.text.proofs.zero_by.Goals as goal
 

@@ -9,11 +9,11 @@ loop-b-init c =
 pub overflow_cast-t : goal.overflow_cast-t
 overflow_cast-t c =
     let l = c.loop-b in
-    let k = ending_low l.invariant c.loop-b-test.true c.end_from-e.ensures in
+    let k = ending_low l.invariant (omega arith) c.end_from-e.ensures in
     omega arith
 
 pub loop-b-preserved : goal.loop-b-preserved
-loop-b-preserved c = ending_on c.loop-b.invariant c.loop-b-test.true c.end_from-e.ensures
+loop-b-preserved c = ending_on c.loop-b.invariant (omega arith) c.end_from-e.ensures
 
 pub returns : goal.returns
 returns c = ending_all c.loop-b.invariant (omega arith)

@@ -3,6 +3,3 @@ use Rattle.text_ends.proofs.fill_ends.Given as goal
 
 abbrev pub invariant-loop-b : goal.invariant-loop-b
 invariant-loop-b l = Ending l.f l.a l.x l.t l.b l.y l.e
-
-abbrev pub decreases-loop-b : goal.decreases-loop-b
-decreases-loop-b l = l.b

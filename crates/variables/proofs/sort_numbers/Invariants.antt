@@ -1,6 +1,6 @@
 use mathlib.Core.Path.{◌≡◌}
 use mathlib.Core.List.{List, []}
-use Prim.Native.Nat.{ℕ, suc, ◌≤◌, ◌-◌, ◌+◌, ◌*◌}
+use Prim.Native.Nat.{ℕ, suc, ◌-◌, ◌+◌, ◌*◌}
 use lib.ListN.{length}
 use Rattle.format.specs.Number.{order_by}
 use Rattle.format.specs.Grammar.{ruled, ended}
@@ -8,9 +8,6 @@ use Rattle.format.specs.Variables.{fresh}
 use Rattle.variables.proofs.SortLaws.{Marks, sort_rest}
 use Rattle.variables.proofs.sort_numbers.Given as goal
 
-abbrev pub invariant-loop-i : goal.invariant-loop-i
-invariant-loop-i l = (l.i ≤ l.k + 1) × (l.q ≡ l.p + l.i * 2) × (length l.seen ≡ 32768)
-    × ((e : List ℕ) × (Marks l.k l.seen e × (sort_rest (order_by l.msf) l.f l.k (l.k + 1 - l.i) e l.q ≡ (ruled (ended (order_by l.msf) 2 (suc l.k) 8) (fresh l.k []) 8).judge l.f l.p)))
-
-abbrev pub decreases-loop-i : goal.decreases-loop-i
-decreases-loop-i l = l.k + 1 - l.i
+abbrev pub invariant-loop : goal.invariant-loop
+invariant-loop l = (l.q ≡ l.p + l.counter * 2) × (length l.seen ≡ 32768)
+    × ((e : List ℕ) × (Marks l.k l.seen e × (sort_rest (order_by l.msf) l.f l.k (l.k + 1 - l.counter) e l.q ≡ (ruled (ended (order_by l.msf) 2 (suc l.k) 8) (fresh l.k []) 8).judge l.f l.p)))

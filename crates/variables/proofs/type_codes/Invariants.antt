@@ -7,9 +7,6 @@ use Rattle.format.specs.Edition.{code_width}
 use Rattle.format.specs.Variables.{type_code}
 use Rattle.variables.proofs.type_codes.Given as goal
 
-abbrev pub invariant-loop-i : goal.invariant-loop-i
-invariant-loop-i l = (l.i ≤ l.k) × (l.q + (l.k - l.i) * code_width l.tagged ≤ length l.f)
-    × (judge_times (type_code l.tagged (order_by l.msf)) (l.k - l.i) l.f l.q ≡ judge_times (type_code l.tagged (order_by l.msf)) l.k l.f l.p)
-
-abbrev pub decreases-loop-i : goal.decreases-loop-i
-decreases-loop-i l = l.k - l.i
+abbrev pub invariant-loop : goal.invariant-loop
+invariant-loop l = (l.q + (l.k - l.counter) * code_width l.tagged ≤ length l.f)
+    × (judge_times (type_code l.tagged (order_by l.msf)) (l.k - l.counter) l.f l.q ≡ judge_times (type_code l.tagged (order_by l.msf)) l.k l.f l.p)

@@ -1,33 +1,42 @@
-use mathlib.Core.Path.{sym, ◌∙◌}
-use borrow.Author.Tests.{not-true, not-false}
+use native.Mathlib.Omega.{arith}
+use mathlib.Core.Path.{◌≡◌, ap, ◌∙◌}
+use Rattle.std.specs.Prelude.{None, Some, Err}
+use Rattle.refusal.specs.declared.Refusal.TheVariants.{NotReadable}
 use Rattle.reading.proofs.ReadLaws.{read_none, read_got}
-use Rattle.walks.proofs.TextLaws.{TextGot, text_got}
+use Rattle.walks.specs.Walks.{ended_by}
+use Rattle.walks.proofs.TextLaws.{text_got}
 use Rattle.walks.proofs.EndedLaws.{ended_plain, ended_none, ended_endless, ended_got}
 use Rattle.walks.proofs.ended.Goals as goal
 
-pub returns-then-not-w : goal.returns-then-not-w
-returns-then-not-w c =
-    let a = c.args in
-    ended_plain a.f.now a.w (not-true a.w.found c.if-not-w.true)
+pub returns-in_default : goal.returns-in_default
+returns-in_default c =
+    let e : None ≡ c.args.w = grind arith in
+    ended_plain c.args.f.now ∙ ap (ended_by c.args.f.now) e
 
-pub returns-then-not-t : goal.returns-then-not-t
-returns-then-not-t c =
-    let a = c.args in
-    let t = c.text_in-t in
-    c.no_words.ensures ∙ sym (ended_none a.f.now a.w (not-false a.w.found c.if-not-w.false) (read_none t.result _ t.ensures (not-true t.result.there c.if-not-t.true)))
+pub returns-in_err-len : goal.returns-in_err-len
+returns-in_err-len c =
+    let w = c.in-Some.field-0 in
+    let z : None ≡ c.text_in.result = grind arith in
+    let r : c.from_residual.result ≡ Err NotReadable = grind arith in
+    let e : Some w ≡ c.args.w = grind arith in
+    r ∙ ended_none c.args.f.now w.at w.len (read_none _ (z ∙ c.text_in.ensures)) ∙ ap (ended_by c.args.f.now) e
 
-pub returns-then-w-t : goal.returns-then-w-t
-returns-then-w-t c =
-    let a = c.args in
-    let g = (let it : (let a = c.args in TextGot a.w.len a.f.now a.w.at c.text_in-t.result.value) = let a = c.args in
-    let t = c.text_in-t in
-    text_got a.w.len a.f.now a.w.at _ (read_got t.result _ t.ensures (not-false t.result.there c.if-not-t.false)) in it) in
-    c.no_words-then-w-t.ensures ∙ sym (ended_endless a.f.now a.w (not-false a.w.found c.if-not-w.false) _ g.is g.long c.if-w-t.true)
+pub returns-then-left-len : goal.returns-then-left-len
+returns-then-left-len c =
+    let f = c.args.f.now in
+    let w = c.in-Some.field-0 in
+    let n = c.in_ok-len.len in
+    let z : Some n ≡ c.text_in.result = grind arith in
+    let e : Some w ≡ c.args.w = grind arith in
+    let g = text_got w.len f w.at n (read_got n _ (z ∙ c.text_in.ensures)) in
+    ended_endless f w.at w.len n g.is g.long c.if-left-len.true ∙ ap (ended_by f) e
 
 pub returns : goal.returns
 returns c =
-    let a = c.args in
-    let g = (let it : (let a = c.args in TextGot a.w.len a.f.now a.w.at c.text_in-t.result.value) = let a = c.args in
-    let t = c.text_in-t in
-    text_got a.w.len a.f.now a.w.at _ (read_got t.result _ t.ensures (not-false t.result.there c.if-not-t.false)) in it) in
-    sym (ended_got a.f.now a.w (not-false a.w.found c.if-not-w.false) _ g.is g.long c.if-w-t.false)
+    let f = c.args.f.now in
+    let w = c.in-Some.field-0 in
+    let n = c.in_ok-len.len in
+    let z : Some n ≡ c.text_in.result = grind arith in
+    let e : Some w ≡ c.args.w = grind arith in
+    let g = text_got w.len f w.at n (read_got n _ (z ∙ c.text_in.ensures)) in
+    ended_got f w.at w.len n g.is g.long c.if-left-len.false ∙ ap (ended_by f) e

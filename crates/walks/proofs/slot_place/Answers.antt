@@ -1,5 +1,5 @@
-use mathlib.Core.Path.{sym, ap, ◌∙◌}
-use Prim.Native.Nat.{◌+◌, ◌*◌, ◌-◌}
+use mathlib.Core.Path.{refl, sym, ap, ◌∙◌}
+use Prim.Native.Nat.{◌+◌, ◌*◌}
 use native.Mathlib.Omega.{arith}
 use mathlib.Core.List.{[]}
 use lib.ListN.{length}
@@ -59,7 +59,7 @@ returns-in-Missing c =
     let g = c.requires in
     let s = search_tail o f a.v (p + 8 + n * 4) n (to_z w32 (of_z w32 a.q)) g.0 g.1 _ c.find_value-s.ensures
     ∙ ap (λ (z : ℤ). (search_at o f (p + 8 + n * 4) (length f) n z).slot) (to_z-of_z w32 a.q c.ranges.q) in
-    words_as _ (plain []) (slot_place o f p n x a.q) c.no_words.ensures (slot_missing o f p n x a.q (ap slot_of (sym c.in-Missing.is) ∙ s))
+    words_as _ (plain []) (slot_place o f p n x a.q) refl (slot_missing o f p n x a.q (ap slot_of (sym c.in-Missing.is) ∙ s))
 
 -- src/lib.rt:143:1
 pub returns-in-Lost : goal.returns-in-Lost
@@ -73,4 +73,4 @@ returns-in-Lost c =
     let g = c.requires in
     let s = search_tail o f a.v (p + 8 + n * 4) n (to_z w32 (of_z w32 a.q)) g.0 g.1 _ c.find_value-s.ensures
     ∙ ap (λ (z : ℤ). (search_at o f (p + 8 + n * 4) (length f) n z).slot) (to_z-of_z w32 a.q c.ranges.q) in
-    words_as _ (refused 17) (slot_place o f p n x a.q) c.no_words-in-Lost.ensures (slot_lost o f p n x a.q (ap slot_of (sym c.in-Lost.is) ∙ s))
+    words_as _ (refused 17) (slot_place o f p n x a.q) refl (slot_lost o f p n x a.q (ap slot_of (sym c.in-Lost.is) ∙ s))

@@ -1,4 +1,4 @@
-use Prim.Native.Nat.{◌≤◌, ◌-◌, ◌*◌}
+use Prim.Native.Nat.{◌*◌}
 use Rattle.format.specs.Number.{msf, lsf}
 use Rattle.format.specs.Grammar.{number}
 use Rattle.text.proofs.Lay.{Laid}
@@ -6,7 +6,4 @@ use Rattle.write_data.specs.Rows.{put_times}
 use Rattle.write_data.proofs.put_numbers.Given as goal
 
 abbrev pub invariant-loop-i : goal.invariant-loop-i
-invariant-loop-i l = (l.i ≤ l.c) × Laid (put_times (number lsf l.w) (number msf l.w) l.i l.f l.q) (l.i * l.w) l.initial.out l.out
-
-abbrev pub decreases-loop-i : goal.decreases-loop-i
-decreases-loop-i l = l.c - l.i
+invariant-loop-i l = Laid (put_times (number lsf l.w) (number msf l.w) l.i l.f l.q) (l.i * l.w) l.initial.out l.out

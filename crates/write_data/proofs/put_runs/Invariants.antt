@@ -1,12 +1,9 @@
 use mathlib.Core.Path.{◌≡◌}
-use Prim.Native.Nat.{ℕ, ◌≤◌, ◌+◌, ◌-◌, ◌*◌}
+use Prim.Native.Nat.{ℕ, ◌+◌, ◌*◌}
 use lib.ListN.{length}
 use Rattle.write_data.specs.Runs.{run_bytes}
 use Rattle.write_data.specs.Blocks.{strewn}
 use Rattle.write_data.proofs.put_runs.Given as goal
 
 abbrev pub invariant-loop-i : goal.invariant-loop-i
-invariant-loop-i l = (l.i ≤ l.m) × (l.out ≡ strewn (λ (j : ℕ). run_bytes l.h l.s l.c l.f (l.q + (j * l.w + l.a))) l.a l.w l.i l.initial.out) × (length l.out ≡ length l.initial.out)
-
-abbrev pub decreases-loop-i : goal.decreases-loop-i
-decreases-loop-i l = l.m - l.i
+invariant-loop-i l = (l.out ≡ strewn (λ (j : ℕ). run_bytes l.h l.s l.c l.f (l.q + (j * l.w + l.a))) l.a l.w l.i l.initial.out) × (length l.out ≡ length l.initial.out)

@@ -1,27 +1,21 @@
-use mathlib.Core.Path.{◌≡◌, ◌∙◌}
+use mathlib.Core.Path.{◌∙◌}
 use Prim.Native.Nat.{◌<◌}
 use native.Mathlib.Omega.{arith}
 use Rattle.format.specs.Number.{order_by}
-use Rattle.format.specs.Labels.{table_size}
-use Rattle.write_labels.proofs.LoopLaws.{Turn, holding_start, holding_turn, holding_stop, holding_next, holding_end}
+use Rattle.write_labels.proofs.LoopLaws.{holding_turn, holding_stop, holding_next, holding_end}
 use Rattle.write_labels.proofs.names_held.Goals as goal
-
-pub loop-at-init : goal.loop-at-init
-loop-at-init c =
-    let a = c.args in
-    holding_start a.tagged (order_by a.msf) a.w a.f.now a.tow a.p a.q c.requires.0.list c.requires.0.stand
 
 pub overflow_add-at : goal.overflow_add-at
 overflow_add-at c =
-    let next : (let a = c.args in Turn a.tagged (order_by a.msf) a.w a.f.now c.loop-at.at a.q c.loop-at.invariant.left) = let a = c.args in
-    holding_turn a.tagged (order_by a.msf) a.w a.f.now a.tow a.p a.q c.loop-at.invariant (omega arith) in
-    let h = next.inside in record { fits = omega arith }
+    let a = c.args in
+    let N = holding_turn a.tagged (order_by a.msf) a.w a.f.now a.tow a.p a.q c.loop-at.invariant (omega arith) in
+    record { fits = omega (arith, N.inside) }
 
 pub text_len-requires : goal.text_len-requires
 text_len-requires c =
-    let next : (let a = c.args in Turn a.tagged (order_by a.msf) a.w a.f.now c.loop-at.at a.q c.loop-at.invariant.left) = let a = c.args in
-    holding_turn a.tagged (order_by a.msf) a.w a.f.now a.tow a.p a.q c.loop-at.invariant (omega arith) in
-    let h = next.inside in omega arith
+    let a = c.args in
+    let N = holding_turn a.tagged (order_by a.msf) a.w a.f.now a.tow a.p a.q c.loop-at.invariant (omega arith) in
+    omega (arith, N.inside)
 
 pub returns-then-tow-text_len : goal.returns-then-tow-text_len
 returns-then-tow-text_len c =
@@ -32,18 +26,15 @@ returns-then-tow-text_len c =
 
 pub table_len-t-requires : goal.table_len-t-requires
 table_len-t-requires c =
-    let next : (let a = c.args in Turn a.tagged (order_by a.msf) a.w a.f.now c.loop-at.at a.q c.loop-at.invariant.left) = let a = c.args in
-    holding_turn a.tagged (order_by a.msf) a.w a.f.now a.tow a.p a.q c.loop-at.invariant (omega arith) in
-    let h = next.inside in omega arith
+    let a = c.args in
+    let N = holding_turn a.tagged (order_by a.msf) a.w a.f.now a.tow a.p a.q c.loop-at.invariant (omega arith) in
+    omega (arith, N.inside)
 
 pub overflow_add-at-in-loop-at-2 : goal.overflow_add-at-in-loop-at-2
 overflow_add-at-in-loop-at-2 c =
-    let next : (let a = c.args in Turn a.tagged (order_by a.msf) a.w a.f.now c.loop-at.at a.q c.loop-at.invariant.left) = let a = c.args in
-    holding_turn a.tagged (order_by a.msf) a.w a.f.now a.tow a.p a.q c.loop-at.invariant (omega arith) in
-    let N = next in
-    let h = N.inside in
-    let k : c.table_len-t.result ≡ table_size N.first.entries = c.table_len-t.ensures.is ∙ N.wide in
-    record { fits = omega arith }
+    let a = c.args in
+    let N = holding_turn a.tagged (order_by a.msf) a.w a.f.now a.tow a.p a.q c.loop-at.invariant (omega arith) in
+    record { fits = omega (arith, N.inside, N.wide) }
 
 pub loop-at-preserved : goal.loop-at-preserved
 loop-at-preserved c =

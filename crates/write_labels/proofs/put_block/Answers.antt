@@ -15,44 +15,24 @@ use borrow.Author.Rules.{rules}
 use Rattle.write_labels.proofs.put_block.Goals as goal
 
 pub overflow_add-h : goal.overflow_add-h
-overflow_add-h c =
-    let x = c.open_size-s in
-    let A = room_inside c.requires x.result x.ensures.0 in
-    record { fits = omega (arith, A) }
+overflow_add-h c = record { fits = omega (arith, room_inside c.requires c.open_size.result c.open_size.ensures.0) }
 
 pub overflow_add-q : goal.overflow_add-q
-overflow_add-q c =
-    let x = c.open_size-s in
-    let A = room_inside c.requires x.result x.ensures.0 in
-    record { fits = omega (arith, A) }
+overflow_add-q c = record { fits = omega (arith, room_inside c.requires c.open_size.result c.open_size.ensures.0) }
 
 pub overflow_add-q-2 : goal.overflow_add-q-2
-overflow_add-q-2 c =
-    let x = c.open_size-s in
-    let A = room_inside c.requires x.result x.ensures.0 in
-    record { fits = omega (arith, A) }
+overflow_add-q-2 c = record { fits = omega (arith, room_inside c.requires c.open_size.result c.open_size.ensures.0) }
 
 pub overflow_add-q-3 : goal.overflow_add-q-3
-overflow_add-q-3 c =
-    let x = c.open_size-s in
-    let A = room_inside c.requires x.result x.ensures.0 in
-    record { fits = omega (arith, A) }
+overflow_add-q-3 c = record { fits = omega (arith, room_inside c.requires c.open_size.result c.open_size.ensures.0) }
 
 pub put_tag-a-requires : goal.put_tag-a-requires
 put_tag-a-requires c =
     room_open c.requires
 
-pub slice_bounds-put_head-count : goal.slice_bounds-put_head-count
-slice_bounds-put_head-count c =
-    let x = c.open_size-s in
-    let A = room_inside c.requires x.result x.ensures.0 in
-    let g = c.put_tag-a in
-    let D = room_after c.requires g.result g.ensures.long in
-    search rules
-
 pub put_head-requires : goal.put_head-requires
 put_head-requires c =
-    let x = c.open_size-s in
+    let x = c.open_size in
     let A = room_inside c.requires x.result x.ensures.0 in
     let g = c.put_tag-a in
     let D = room_after c.requires g.result g.ensures.long in
@@ -60,40 +40,20 @@ put_head-requires c =
     (omega (arith, A), simp (length-take, length-drop) (omega (arith, D)), rw (room_read c.requires x.result x.ensures.0).called (omega (arith, N)))
 
 pub overflow_add-b : goal.overflow_add-b
-overflow_add-b c =
-    let x = c.open_size-s in
-    let A = room_inside c.requires x.result x.ensures.0 in
-    let g = c.put_tag-a in
-    let D = room_after c.requires g.result g.ensures.long in
-    record { fits = omega (arith, D) }
+overflow_add-b c = record { fits = omega (arith, room_after c.requires c.put_tag-a.result c.put_tag-a.ensures.long) }
 
 pub overflow_add-b-2 : goal.overflow_add-b-2
-overflow_add-b-2 c =
-    let x = c.open_size-s in
-    let A = room_inside c.requires x.result x.ensures.0 in
-    let g = c.put_tag-a in
-    let D = room_after c.requires g.result g.ensures.long in
-    record { fits = omega (arith, D) }
+overflow_add-b-2 c = record { fits = omega (arith, room_after c.requires c.put_tag-a.result c.put_tag-a.ensures.long) }
 
 pub overflow_add-b-3 : goal.overflow_add-b-3
-overflow_add-b-3 c =
-    let x = c.open_size-s in
-    let A = room_inside c.requires x.result x.ensures.0 in
-    let g = c.put_tag-a in
-    let D = room_after c.requires g.result g.ensures.long in
-    record { fits = omega (arith, D) }
+overflow_add-b-3 c = record { fits = omega (arith, room_after c.requires c.put_tag-a.result c.put_tag-a.ensures.long) }
 
 pub slice_bounds-put_counted-count : goal.slice_bounds-put_counted-count
-slice_bounds-put_counted-count c =
-    let x = c.open_size-s in
-    let A = room_inside c.requires x.result x.ensures.0 in
-    let g = c.put_tag-a in
-    let D = room_after c.requires g.result g.ensures.long in
-    search rules
+slice_bounds-put_counted-count c = let D = room_after c.requires c.put_tag-a.result c.put_tag-a.ensures.long in search rules
 
-pub put_counted-k-requires : goal.put_counted-k-requires
-put_counted-k-requires c =
-    let x = c.open_size-s in
+pub put_counted-requires : goal.put_counted-requires
+put_counted-requires c =
+    let x = c.open_size in
     let A = room_inside c.requires x.result x.ensures.0 in
     let g = c.put_tag-a in
     let D = room_after c.requires g.result g.ensures.long in
@@ -102,42 +62,42 @@ put_counted-k-requires c =
 
 pub overflow_add-c : goal.overflow_add-c
 overflow_add-c c =
-    let x = c.open_size-s in
+    let x = c.open_size in
     let g = c.put_tag-a in
-    let D = room_last c.requires x.result x.ensures.0 c.put_counted-k.ensures g.result g.ensures.long (length (cond c.args.totagged (closing true n_lbl) [])) refl in
+    let D = room_last c.requires x.result x.ensures.0 c.put_counted.ensures g.result g.ensures.long (length (cond c.args.totagged (closing true n_lbl) [])) refl in
     record { fits = omega (arith, D) }
 
 pub slice_bounds-put_tag-count : goal.slice_bounds-put_tag-count
 slice_bounds-put_tag-count c =
-    let x = c.open_size-s in
+    let x = c.open_size in
     let g = c.put_tag-a in
-    let D = room_last c.requires x.result x.ensures.0 c.put_counted-k.ensures g.result g.ensures.long (length (cond c.args.totagged (closing true n_lbl) [])) refl in
+    let D = room_last c.requires x.result x.ensures.0 c.put_counted.ensures g.result g.ensures.long (length (cond c.args.totagged (closing true n_lbl) [])) refl in
     search rules
 
-pub put_tag-e-requires : goal.put_tag-e-requires
-put_tag-e-requires c =
-    let x = c.open_size-s in
+pub put_tag-requires : goal.put_tag-requires
+put_tag-requires c =
+    let x = c.open_size in
     let g = c.put_tag-a in
-    let D = room_last c.requires x.result x.ensures.0 c.put_counted-k.ensures g.result g.ensures.long (length (cond c.args.totagged (closing true n_lbl) [])) refl in
+    let D = room_last c.requires x.result x.ensures.0 c.put_counted.ensures g.result g.ensures.long (length (cond c.args.totagged (closing true n_lbl) [])) refl in
     simp (length-take, length-drop) (omega (arith, D))
 
 pub overflow_add-result : goal.overflow_add-result
 overflow_add-result c =
-    let x = c.open_size-s in
+    let x = c.open_size in
     let g = c.put_tag-a in
-    let D = room_last c.requires x.result x.ensures.0 c.put_counted-k.ensures g.result g.ensures.long c.put_tag-e.result c.put_tag-e.ensures.long in
+    let D = room_last c.requires x.result x.ensures.0 c.put_counted.ensures g.result g.ensures.long c.put_tag.result c.put_tag.ensures.long in
     record { fits = omega (arith, D) }
 
 pub returns : goal.returns
 returns c =
-    let x = c.open_size-s in
+    let x = c.open_size in
     let g = c.put_tag-a in
-    let D = room_last c.requires x.result x.ensures.0 c.put_counted-k.ensures g.result g.ensures.long c.put_tag-e.result c.put_tag-e.ensures.long in
+    let D = room_last c.requires x.result x.ensures.0 c.put_counted.ensures g.result g.ensures.long c.put_tag.result c.put_tag.ensures.long in
     let a = c.args in
     let K = c.requires in
     let h = c.put_head in
-    let k = c.put_counted-k in
-    let y = c.put_tag-e in
+    let k = c.put_counted in
+    let y = c.put_tag in
     let z = order_by a.tomsf in
     let b = K.this in
     let w = table_size b.entries in
@@ -152,16 +112,11 @@ returns c =
     room_puts K (puts_of (laid_as l4 (sym (block_fill z a.tow a.totagged b)) refl))
 
 pub slice_bounds-put_counted-start : goal.slice_bounds-put_counted-start
-slice_bounds-put_counted-start c =
-    let x = c.open_size-s in
-    let A = room_inside c.requires x.result x.ensures.0 in
-    let g = c.put_tag-a in
-    let D = room_after c.requires g.result g.ensures.long in
-    search rules
+slice_bounds-put_counted-start c = let D = room_after c.requires c.put_tag-a.result c.put_tag-a.ensures.long in search rules
 
 pub slice_bounds-put_tag-start : goal.slice_bounds-put_tag-start
 slice_bounds-put_tag-start c =
-    let x = c.open_size-s in
+    let x = c.open_size in
     let g = c.put_tag-a in
-    let D = room_last c.requires x.result x.ensures.0 c.put_counted-k.ensures g.result g.ensures.long (length (cond c.args.totagged (closing true n_lbl) [])) refl in
+    let D = room_last c.requires x.result x.ensures.0 c.put_counted.ensures g.result g.ensures.long (length (cond c.args.totagged (closing true n_lbl) [])) refl in
     search rules

@@ -1,7 +1,6 @@
 use mathlib.Core.Path.{refl}
 use mathlib.Core.List.{append_assoc}
 use native.Mathlib.Omega.{arith}
-use lib.ListN.{take, drop}
 use Rattle.format.specs.Number.{order_by}
 use Rattle.text.proofs.Lay.{laid_as}
 use Rattle.writing.proofs.Chain.{puts_first, puts_part, puts_of}
@@ -14,10 +13,8 @@ returns c =
     let h = c.put_tag-a in
     let n = c.put_counted in
     let t = c.put_tag in
-    let first = a.first.now in
-    let last = a.last.now in
-    let bytes = counted_bytes (order_by a.msf) a.w (take a.len (drop a.at a.f.now)) in
+    let bytes = counted_bytes (order_by a.msf) a.w a.t.now in
     let one = puts_first h.ensures (omega arith) in
     let two = puts_part one bytes n.new.out n.result n.ensures.1 (omega arith) in
-    let three = puts_part two last t.new.out t.result t.ensures (omega arith) in
-    (omega arith, puts_of (laid_as three (append_assoc first bytes last) refl))
+    let three = puts_part two a.last.now t.new.out t.result t.ensures (omega arith) in
+    (omega arith, puts_of (laid_as three (append_assoc a.first.now bytes a.last.now) refl))

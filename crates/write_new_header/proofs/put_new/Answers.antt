@@ -1,7 +1,6 @@
 use mathlib.Core.Path.{refl, ◌∙◌}
 use mathlib.Core.List.{append_assoc}
 use native.Mathlib.Omega.{arith}
-use lib.ListN.{take, drop}
 use Rattle.format.specs.Number.{order_by}
 use Rattle.text.proofs.Lay.{laid_as}
 use Rattle.writing.proofs.Chain.{puts_first, puts_part, puts_of}
@@ -12,14 +11,14 @@ use Rattle.write_new_header.proofs.put_new.Goals as goal
 pub returns : goal.returns
 returns c =
     let a = c.args in
-    let room = c.requires.4 in
+    let room = c.requires.2 in
     let x = c.put_start-a in
     let y = c.put_counts in
     let z = c.put_texts in
     let e = a.e in
     let o = order_by a.msf in
-    let label = take a.llen (drop a.lat a.f.now) in
-    let stamp = take a.slen (drop a.sat a.f.now) in
+    let label = a.label.now in
+    let stamp = a.stamp.now in
     let begins = start_bytes e.number o in
     let counts = count_bytes o e.n_width a.k a.n in
     let texts = text_bytes o e.label_length label stamp in

@@ -2,7 +2,6 @@ use mathlib.Core.Path.{refl}
 use mathlib.Core.Bool.{true}
 use mathlib.Core.List.{◌++◌}
 use native.Mathlib.Omega.{arith}
-use lib.ListN.{take, drop}
 use Rattle.format.specs.Number.{order_by}
 use Rattle.format.specs.Edition.{opening, closing, n_label, n_timestamp, n_header}
 use Rattle.text.proofs.Lay.{laid_as}
@@ -14,12 +13,12 @@ use Rattle.write_new_header.proofs.put_texts.Goals as goal
 pub returns : goal.returns
 returns c =
     let a = c.args in
-    let room = c.requires.3 in
+    let room = c.requires.1 in
     let x = c.put_counted_part-a in
     let y = c.put_counted_part in
     let o = order_by a.msf in
-    let label = take a.llen (drop a.lat a.f.now) in
-    let stamp = take a.slen (drop a.sat a.f.now) in
+    let label = a.label.now in
+    let stamp = a.stamp.now in
     let first = tagged (opening true n_label) (closing true n_label) (counted_bytes o a.w label) in
     let last = tagged (opening true n_timestamp) (closing true n_timestamp ++ closing true n_header) (counted_bytes o 1 stamp) in
     let one = puts_first {g = first} x.ensures.1 (omega (arith, room)) in

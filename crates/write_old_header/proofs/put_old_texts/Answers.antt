@@ -1,5 +1,4 @@
 use native.Mathlib.Omega.{arith}
-use lib.ListN.{take, drop}
 use Rattle.format.specs.Slot.{fill}
 use Rattle.format.specs.Grammar.{text_slots}
 use Rattle.writing.proofs.Chain.{puts_first, puts_part, puts_of}
@@ -10,7 +9,6 @@ returns c =
     let a = c.args in
     let x = c.put_padded-a in
     let y = c.put_padded in
-    let first = fill (text_slots a.w (take a.llen (drop a.lat a.f.now))) in
-    let one = puts_first {g = first} x.ensures.1 (omega arith) in
-    let two = puts_part {t = first} one (fill (text_slots 18 (take a.slen (drop a.sat a.f.now)))) y.new.out y.result y.ensures.1 (omega arith) in
+    let one = puts_first {g = fill (text_slots a.w a.label.now)} x.ensures.1 (omega arith) in
+    let two = puts_part one (fill (text_slots 18 a.stamp.now)) y.new.out y.result y.ensures.1 (omega arith) in
     (omega arith, puts_of two)

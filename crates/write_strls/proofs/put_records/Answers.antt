@@ -1,4 +1,3 @@
-use Prim.Native.Nat.{◌-◌}
 use native.Mathlib.Omega.{arith}
 use lib.ListN.{length-take, length-drop}
 use Rattle.write_strls.proofs.LoopLaws.{longs_done, counted_of, turn_head, turn, turn_puts, longs_put}
@@ -7,21 +6,11 @@ use Rattle.write_strls.proofs.put_records.Goals as goal
 pub loop-from-init : goal.loop-from-init
 loop-from-init c = longs_done c.requires.0
 
-pub overflow_add-ow : goal.overflow_add-ow
-overflow_add-ow c = omega (arith, turn_head (counted_of c.loop-from.invariant) (omega arith))
-
 pub overflow_add-from : goal.overflow_add-from
 overflow_add-from c = omega (arith, turn_head (counted_of c.loop-from.invariant) (omega arith))
 
 pub number-n-requires : goal.number-n-requires
 number-n-requires c = (omega (arith, turn_head (counted_of c.loop-from.invariant) (omega arith)), omega arith)
-
-pub slice_bounds-put_record-count : goal.slice_bounds-put_record-count
-slice_bounds-put_record-count c =
-    let l = c.loop-from in
-    let t = turn (counted_of l.invariant) (omega arith) c.number-n.result c.number-n.ensures.is in
-    let e = l.invariant.so.laid.whole in
-    omega (arith, t.room)
 
 pub put_record-requires : goal.put_record-requires
 put_record-requires c =
@@ -30,38 +19,15 @@ put_record-requires c =
     let e = l.invariant.so.laid.whole in
     (omega (arith, t.inside), simp (length-take, length-drop) (omega (arith, t.room)), omega arith, omega arith)
 
-pub overflow_add-from-in-loop-from : goal.overflow_add-from-in-loop-from
-overflow_add-from-in-loop-from c =
-    omega (arith, (turn (counted_of c.loop-from.invariant) (omega arith) c.number-n.result c.number-n.ensures.is).inside)
-
-pub overflow_add-from-in-loop-from-2 : goal.overflow_add-from-in-loop-from-2
-overflow_add-from-in-loop-from-2 c =
-    omega (arith, (turn (counted_of c.loop-from.invariant) (omega arith) c.number-n.result c.number-n.ensures.is).inside)
-
 pub overflow_add-from-in-loop-from-3 : goal.overflow_add-from-in-loop-from-3
 overflow_add-from-in-loop-from-3 c =
     omega (arith, (turn (counted_of c.loop-from.invariant) (omega arith) c.number-n.result c.number-n.ensures.is).inside)
-
-pub overflow_add-to : goal.overflow_add-to
-overflow_add-to c =
-    omega (arith, (turn (counted_of c.loop-from.invariant) (omega arith) c.number-n.result c.number-n.ensures.is).room)
-
-pub overflow_add-to-in-loop-from : goal.overflow_add-to-in-loop-from
-overflow_add-to-in-loop-from c =
-    omega (arith, (turn (counted_of c.loop-from.invariant) (omega arith) c.number-n.result c.number-n.ensures.is).room)
-
-pub overflow_add-to-in-loop-from-2 : goal.overflow_add-to-in-loop-from-2
-overflow_add-to-in-loop-from-2 c =
-    omega (arith, (turn (counted_of c.loop-from.invariant) (omega arith) c.number-n.result c.number-n.ensures.is).room)
 
 pub loop-from-preserved : goal.loop-from-preserved
 loop-from-preserved c =
     let l = c.loop-from in
     let n = c.number-n in
     turn_puts l.invariant (omega arith) n.result c.put_record.new.out n.ensures.is c.put_record.ensures
-
-pub shape_of-out : goal.shape_of-out
-shape_of-out c = c.loop-from.invariant.so.laid.whole
 
 pub returns : goal.returns
 returns c = longs_put c.loop-from.invariant (omega arith)

@@ -1,13 +1,6 @@
-use Prim.Native.Nat.{◌-◌}
 use native.Mathlib.Omega.{arith}
-use Rattle.write_strls.proofs.LoopLaws.{longs_counted, turn_head, turn, longs_size}
+use Rattle.write_strls.proofs.LoopLaws.{turn_head, turn, longs_size}
 use Rattle.write_strls.proofs.records_size.Goals as goal
-
-pub loop-at-init : goal.loop-at-init
-loop-at-init c = longs_counted c.requires.0
-
-pub overflow_add-ow : goal.overflow_add-ow
-overflow_add-ow c = omega (arith, turn_head c.loop-at.invariant (omega arith))
 
 pub overflow_add-at : goal.overflow_add-at
 overflow_add-at c = omega (arith, turn_head c.loop-at.invariant (omega arith))
@@ -15,20 +8,8 @@ overflow_add-at c = omega (arith, turn_head c.loop-at.invariant (omega arith))
 pub number-n-requires : goal.number-n-requires
 number-n-requires c = (omega (arith, turn_head c.loop-at.invariant (omega arith)), omega arith)
 
-pub overflow_add-at-in-loop-at : goal.overflow_add-at-in-loop-at
-overflow_add-at-in-loop-at c = omega (arith, (turn c.loop-at.invariant (omega arith) c.number-n.result c.number-n.ensures.is).inside)
-
-pub overflow_add-at-in-loop-at-2 : goal.overflow_add-at-in-loop-at-2
-overflow_add-at-in-loop-at-2 c = omega (arith, (turn c.loop-at.invariant (omega arith) c.number-n.result c.number-n.ensures.is).inside)
-
 pub overflow_add-at-in-loop-at-3 : goal.overflow_add-at-in-loop-at-3
 overflow_add-at-in-loop-at-3 c = omega (arith, (turn c.loop-at.invariant (omega arith) c.number-n.result c.number-n.ensures.is).inside)
-
-pub overflow_add-sum : goal.overflow_add-sum
-overflow_add-sum c = omega (arith, (turn c.loop-at.invariant (omega arith) c.number-n.result c.number-n.ensures.is).room)
-
-pub overflow_add-sum-in-loop-at : goal.overflow_add-sum-in-loop-at
-overflow_add-sum-in-loop-at c = omega (arith, (turn c.loop-at.invariant (omega arith) c.number-n.result c.number-n.ensures.is).room)
 
 pub overflow_add-sum-in-loop-at-2 : goal.overflow_add-sum-in-loop-at-2
 overflow_add-sum-in-loop-at-2 c = omega (arith, (turn c.loop-at.invariant (omega arith) c.number-n.result c.number-n.ensures.is).room)

@@ -6,14 +6,14 @@ use lib.ListN.{length-take, length-drop}
 use Rattle.format.specs.Slot.{fill}
 use Rattle.format.specs.Number.{num_slots, order_by}
 use Rattle.format.proofs.SlotLaws.{length_tab}
-use Rattle.text.proofs.Lay.{laid_none, laid_part, laid_as}
+use Rattle.text.proofs.Lay.{laid_first, laid_part, laid_as}
 use Rattle.writing.proofs.Chain.{puts_of}
 use Rattle.write_tables.proofs.MarkLaws.{numbers_fill}
 use Rattle.write_tables.proofs.TableLaws.{room_inside, table_read, area_fill, table_parts, entries_length}
 use Rattle.write_tables.proofs.put_table.Goals as goal
 
-pub overflow_add-p : goal.overflow_add-p
-overflow_add-p c =
+pub overflow_add-q : goal.overflow_add-q
+overflow_add-q c =
     let a = c.args in
     let h = room_inside (order_by a.msf) a.f.now a.p a.n a.m _ c.requires in
     record { fits = omega (arith, h) }
@@ -24,14 +24,8 @@ put_entries-requires c =
     let h = room_inside (order_by a.msf) a.f.now a.p a.n a.m _ c.requires in
     (omega (arith, h), simp (length-take, length-drop) (omega (arith, h)))
 
-pub overflow_add-p-2 : goal.overflow_add-p-2
-overflow_add-p-2 c =
-    let a = c.args in
-    let h = room_inside (order_by a.msf) a.f.now a.p a.n a.m _ c.requires in
-    record { fits = omega (arith, h) }
-
-pub overflow_add-p-3 : goal.overflow_add-p-3
-overflow_add-p-3 c =
+pub overflow_add-p : goal.overflow_add-p
+overflow_add-p c =
     let a = c.args in
     let h = room_inside (order_by a.msf) a.f.now a.p a.n a.m _ c.requires in
     record { fits = omega (arith, h) }
@@ -64,7 +58,7 @@ returns c =
     let h = room_inside o f p n m _ c.requires in
     let counts = fill (num_slots z 4 n) ++ fill (num_slots z 4 m) in
     let entries = numbers_fill o z f n (p + 8) ++ numbers_fill o z f n (p + 8 + n * 4) in
-    let l1 = laid_part (laid_none a.out.now) counts x.new.out 8 refl (omega (arith, h)) x.ensures in
+    let l1 = laid_first counts a.out.now x.new.out 8 x.ensures refl (omega (arith, h)) in
     let l2 = laid_part {t = counts} l1 entries y.new.out (n * 4 + n * 4) (entries_length o z f n (p + 8)) (omega (arith, h)) y.ensures in
     let l3 = laid_as {t = counts ++ entries} {b = 8 + n * 4 + n * 4} l2 refl (omega arith) in
     let l4 = laid_part {t = counts ++ entries} l3 (area_fill o f p n m) w.new.out m (length_tab m _) (omega (arith, h)) w.ensures in

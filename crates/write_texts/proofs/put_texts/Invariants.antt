@@ -1,10 +1,7 @@
-use Prim.Native.Nat.{◌≤◌, ◌-◌, ◌*◌}
+use Prim.Native.Nat.{◌*◌}
 use Rattle.text.proofs.Lay.{Laid}
 use Rattle.write_texts.proofs.TextsLaws.{put_texts}
 use Rattle.write_texts.proofs.put_texts.Given as goal
 
 abbrev pub invariant-loop-i : goal.invariant-loop-i
-invariant-loop-i l = (l.i ≤ l.k) × Laid (put_texts l.w l.to l.f l.p l.i) (l.i * l.to) l.initial.out l.out
-
-abbrev pub decreases-loop-i : goal.decreases-loop-i
-decreases-loop-i l = l.k - l.i
+invariant-loop-i l = Laid (put_texts l.w l.to l.f l.p l.i) (l.i * l.to) l.initial.out l.out

@@ -1,9 +1,0 @@
-use mathlib.Core.Path.{refl}
-use Rattle.format.specs.Number.{lsf}
-use Rattle.number.proofs.WriteLaws.{bytes_stored}
-use Rattle.number.proofs.put_4.Goals as goal
-
-pub returns : goal.returns
-returns c =
-    let a = c.args in
-    bytes_stored lsf a.w a.n a.out.now _ _ a.i _ 2 2 refl c.put_2.ensures c.put_2-2.ensures

@@ -1,8 +1,0 @@
-use borrow.Author.Tests.{eq-eqb, ne_eqb}
-use Rattle.write_data.proofs.one_run.Goals as goal
-
-pub returns-then-r-ne1 : goal.returns-then-r-ne1
-returns-then-r-ne1 c = rw (ne_eqb c.args.r 1 c.if-r-ne1.true)
-
-pub returns : goal.returns
-returns c = rw (eq-eqb c.args.r 1 c.if-r-ne1.false)
