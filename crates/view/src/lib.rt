@@ -55,8 +55,15 @@ impl<'a> View<'a> {
         View { file, layout }
     }
 
-    // The view of a file alone, which is checked first.
-    pub fn checked(file: &'a [u8]) -> Result<View<'a>, Refusal>
+    // The view of a file alone, which is checked first: the verdict's number is stored, and with a refusal the layout is all zeros.
+    pub fn checked<'c>(file: &'a [u8], code: &'c mut u8) -> View<'a>
+        ensures { (result.file ≡ file.entry) × ((code.new ≡ verdict file.now) × (layout_by result.layout ≡ layout_of file.now)) }
+    {
+        View::make(file, checked_layout(file, code))
+    }
+
+    // The view of a file alone that is accepted.
+    pub fn accepted(file: &'a [u8]) -> Result<View<'a>, Refusal>
         ensures code { code_of result ≡ verdict file.now }
         ensures view { IfOk result (λ v. (v.file ≡ file.entry) × (layout_by v.layout ≡ layout_of file.now)) }
     {

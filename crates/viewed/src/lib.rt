@@ -41,9 +41,9 @@ pub fn words_asked<'a>(file: &'a [u8], plain: &'a [u8], layout: Layout, i: u64, 
     View::make(file, layout).words(plain, i, j)
 }
 
-// The answer to a question by a file alone, which is checked first: the verdict's number is stored, and with a refusal a layout of zeros is asked.
+// The answer to a question by the view of a file alone: the verdict's number is stored, and with a refusal a layout of zeros is asked.
 pub fn checked_asked(file: &[u8], code: &mut u8, q: Question) -> Answer
     ensures { (code.new ≡ verdict file.now) × Asked file.now (layout_of file.now) q result }
 {
-    View::make(file, view::checked_layout(file, code)).ask(q)
+    View::checked(file, code).ask(q)
 }
