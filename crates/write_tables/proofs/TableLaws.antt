@@ -76,6 +76,16 @@ module _ (o : Order) (f : List ℕ) where
         low = λ j k. (let z = past_gives (λ i. get_or t.texts i 0) y j (below_each _ t.offsets j r.1.1.end k) in omega (arith, z.1, z.2));
       })
 
+  -- two tables that stand there are one
+  pub table_same : (p n m : ℕ) (t u : Table) → TableAt o f p n m t → TableAt o f p n m u → t ≡ u
+  table_same p n m t u a b =
+      let x = table_read p n m t a in
+      let y = table_read p n m u b in
+      let e = sym x.offs ∙ y.offs in
+      let v = sym x.vals ∙ y.vals in
+      let c = sym x.chars ∙ ap (λ (l : List ℕ). tab m (masked l (λ i. get_or f (p + (8 + n * 4 + n * 4) + i) 0))) e ∙ y.chars in
+      λ i. record { offsets = e i; values = v i; texts = c i }
+
   -- what is put for it, part by part
   pub table_fill : (z : Order) (p n m : ℕ) (t : Table) → TableAt o f p n m t → fill ((table z (table_size t)).slots t)
       ≡ fill (num_slots z 4 n)
