@@ -8,6 +8,7 @@ ghost use Rattle.data.specs.Places.{field_at, off_at, Typed, DataJudged};
 use refusal::Refusal;
 
 // Kind and width of the cells of variable `i`, with the type list at `types`.
+#[inline(always)]
 pub fn field_at(f: &[u8], types: usize, i: usize, tagged: bool, msf: bool) -> codes::Field
     requires { types + i * code_width tagged + code_width tagged ≤ length f.now }
     ensures { result ≡ field_at tagged (order_by msf) f.now types i }

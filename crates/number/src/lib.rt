@@ -78,7 +78,8 @@ fn number_of<const W: usize>(f: &[u8], p: usize, msf: bool) -> u64
     ordered::<W>(little::<W>(f, p), msf)
 }
 
-// The number of `w` bytes at `p`, most significant byte first where `msf`, else last.
+// The number of `w` bytes at `p`, most significant byte first where `msf`, else last. It is inlined, so that a width that is a constant is one load.
+#[inline(always)]
 pub fn number(f: &[u8], p: usize, w: usize, msf: bool) -> u64
     requires { (p + w ≤ length f.now) × (w ≤ 8) }
     ensures { IsNumber (order_by msf) w f.now p result }

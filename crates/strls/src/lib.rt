@@ -111,6 +111,7 @@ impl<'a> Pass<'a> {
     }
 
     // Whether the strL cell at `p` is the reference (`v`, `o`).
+    #[inline(always)]
     fn link_at(self, p: usize, v: usize, o: usize) -> bool
         requires { p + 8 ≤ length self.f.now }
         ensures { result ≡ link_at self.entry.f.now self.entry.d p v o }
@@ -250,6 +251,7 @@ impl<'a> Strls<'a> {
     }
 
     // Kind and width of the cells of variable `i`.
+    #[inline(always)]
     fn field_at(self, i: usize) -> Field
         requires { i < self.d.k }
         ensures { result ≡ field_at self.entry.d.tagged (order_of self.entry.d) self.entry.f.now self.entry.d.types i }

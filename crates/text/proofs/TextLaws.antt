@@ -6,7 +6,7 @@ use native.Mathlib.Nat.{add-zero, zero-add, add-suc, sub-zero}
 use native.Mathlib.Numerals.{add-one}
 use mathlib.Core.List.{List, [], ◌∷◌, ◌++◌}
 use mathlib.Core.Bool.{Bool, true, false, not, ◌&&◌, ◌||◌, and-false, true≢false}
-use lib.ListN.{length, get_or, take, drop, replicate, length-drop}
+use lib.ListN.{length, get_or, take, drop, replicate, length-drop, drop_of_length-le}
 use lib.Seq.{drop-cons, take-suc, get_or-take, get_or-drop, length-take-le, ext_get_or}
 use lib.Dec.{eqb}
 use borrow.Author.Tests.{eq-eqb, ne_eqb, eqb-true, eqb-false, le-leb, lt-leb}
@@ -166,6 +166,18 @@ module _ (f : List ℕ) where
   text_put w p m n b e h = let k : length (text_at w f p) ≤ n = omega arith in rw (e, text_bytes w p b) (sym (fill_text n (text_at w f p) k))
 
 -- ---- the comparison of a tag
+
+module _ (t f : List ℕ) (p i : ℕ) where
+  pub same_turn : i < length t → get_or f (p + i) 0 ≡ get_or t i 0 → same_at (drop i t) f (p + i) ≡ same_at (drop (i + 1) t) f (p + (i + 1))
+  same_turn b e =
+      let g : p + (i + 1) ≡ suc (p + i) = omega arith in
+      rw (drop-cons t i 0 b, g, add-one i, eq-eqb (get_or f (p + i) 0) (get_or t i 0) e)
+
+  pub same_stop : i < length t → (get_or f (p + i) 0 ≡ get_or t i 0 → ⊥) → same_at (drop i t) f (p + i) ≡ false
+  same_stop b e = rw (drop-cons t i 0 b, ne_eqb (get_or f (p + i) 0) (get_or t i 0) e)
+
+  pub same_none : length t ≤ i → same_at (drop i t) f (p + i) ≡ true
+  same_none b = rw (drop_of_length-le t {i = i} b)
 
 eqb_turned : (a b : ℕ) → eqb a b ≡ eqb b a
 eqb_turned a b = go (eqb b a) refl

@@ -99,12 +99,14 @@ pub fn zero_last(f: &[u8], p: usize, n: usize) -> bool
     (f[p + m] == 0) & !z
 }
 
-// Copies the `m` bytes of `f` at `p` to the start of `out`.
+// Copies the `m` bytes of `f` at `p` to the start of `out`, by a loop, which needs nothing from outside (`copy_from_slice` is `memmove`).
 pub fn put_bytes(out: &mut [u8], f: &[u8], p: usize, m: usize)
     requires { (p + m ≤ length f.now) × (m ≤ length out.old) }
     ensures { out.new ≡ take m (drop p f.now) ++ drop m out.old }
 {
-    out[..m].copy_from_slice(&f[p..p + m]);
+    for i in 0..m {
+        out[i] = f[p + i];
+    }
 }
 
 // Puts `m` zeros at the start of `out`.
@@ -125,12 +127,17 @@ pub fn put_text(out: &mut [u8], f: &[u8], p: usize, w: usize, n: usize)
     put_zeros(&mut out[m..], n - m);
 }
 
-// Whether the bytes of `t` stand at `p`.
+// Whether the bytes of `t` stand at `p`: by a loop, which is inlined where `t` is a tag (`starts_with` is a call).
 pub fn same_at(f: &[u8], p: usize, t: &[u8]) -> bool
     requires { p + length t.now ≤ length f.now }
     ensures { result ≡ same_at t.now f.now p }
 {
-    f[p..].starts_with(t)
+    for k in 0..t.len() {
+        if f[p + k] != t[k] {
+            return false;
+        }
+    }
+    true
 }
 
 // Whether the tag `t` stands at `p`: cut short where the file ends before the tag does, `refusal` where its bytes differ.

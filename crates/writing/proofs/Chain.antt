@@ -1,9 +1,12 @@
 -- One writer after another.
-use mathlib.Core.Path.{sym}
-use mathlib.Core.List.{List, ◌++◌}
+use mathlib.Core.Path.{◌≡◌, refl, sym, ap, ◌∙◌}
+use mathlib.Core.List.{List, [], ◌∷◌, ◌++◌}
+use mathlib.Core.Bool.{Bool, true, false, cond}
 use Prim.Native.Nat.{ℕ, ◌+◌, ◌-◌, ◌≤◌}
 use borrow.Rule.Slice.PartMut.{put_mid}
 use lib.ListN.{length, take, drop}
+use lib.Seq.{take_all}
+use native.Mathlib.Omega.{arith}
 use Rattle.text.proofs.Lay.{Laid, laid_first, laid_part}
 use Rattle.writing.specs.Writes.{Puts}
 
@@ -19,3 +22,10 @@ puts_part l g p b h room = laid_part l g p b (sym h.long) room h.is
 -- the answer
 pub puts_of : {t : List ℕ} {a : ℕ} {d w : List ℕ} → Laid t a d w → Puts t d w a
 puts_of l = record { is = l.is; long = sym l.long }
+
+-- a tag that is there
+pub tag_room : (b : Bool) (t : List ℕ) (n : ℕ) → b ≡ true → length (cond b t []) ≤ n → length t ≤ n
+tag_room b t n e h = rw e at h
+
+pub tag_put : (b : Bool) (t d w : List ℕ) → b ≡ true → w ≡ take (length t) (drop 0 t) ++ drop (length t) d → Puts (cond b t []) d w (length t)
+tag_put b t d w e h = rw e (record { is = h ∙ ap (λ (x : List ℕ). x ++ drop (length t) d) (take_all (length t) t (omega arith)); long = refl })

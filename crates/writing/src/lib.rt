@@ -12,6 +12,6 @@ pub fn put_tag(out: &mut [u8], t: &[u8], there: bool) -> usize
         return 0;
     }
     let n = t.len();
-    out[..n].copy_from_slice(t);
+    text::put_bytes(&mut out[..], t, 0, n);
     n
 }

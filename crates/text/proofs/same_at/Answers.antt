@@ -1,13 +1,23 @@
-use Prim.Native.Nat.{◌-◌}
-use mathlib.Core.Path.{◌∙◌}
+use mathlib.Core.Path.{sym, ◌∙◌}
+use native.Mathlib.Nat.{add-zero}
 use native.Mathlib.Omega.{arith}
-use lib.ListN.{length, drop, length-drop}
-use lib.Seq.{take_all}
-use Rattle.text.proofs.TextLaws.{same_starts}
+use Rattle.text.proofs.TextLaws.{same_turn, same_stop, same_none}
 use Rattle.text.proofs.same_at.Goals as goal
+
+pub loop-k-init : goal.loop-k-init
+loop-k-init c = rw add-zero
+
+pub returns-then-f-p : goal.returns-then-f-p
+returns-then-f-p c =
+    let a = c.args in
+    sym (c.loop-k.invariant ∙ same_stop a.t.now a.f.now a.p c.loop-k.k (omega arith) c.if-f-p.true)
+
+pub loop-k-preserved : goal.loop-k-preserved
+loop-k-preserved c =
+    let a = c.args in
+    c.loop-k.invariant ∙ same_turn a.t.now a.f.now a.p c.loop-k.k (omega arith) c.if-f-p.false
 
 pub returns : goal.returns
 returns c =
     let a = c.args in
-    let e = take_all (length a.f.now - a.p) (drop a.p a.f.now) (simp length-drop (omega arith)) in
-    (rw e at c.starts_with.ensures.value) ∙ same_starts a.t.now a.f.now a.p c.requires
+    sym (c.loop-k.invariant ∙ same_none a.t.now a.f.now a.p c.loop-k.k (omega arith))
