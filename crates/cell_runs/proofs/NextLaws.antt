@@ -1,7 +1,7 @@
 -- From a column to the next: one width more.
 use mathlib.Core.Path.{◌≡◌, refl, sym, ap, ◌∙◌}
 use Prim.Native.Nat.{ℕ, zero, suc, ◌+◌, ◌-◌, ◌*◌, ◌≤◌, ◌<◌}
-use native.Mathlib.Nat.{zero-add}
+use native.Mathlib.Nat.{zero-add, add-zero, add_assoc}
 use native.Mathlib.Omega.{arith}
 use mathlib.Core.List.{List, [], ◌∷◌}
 use mathlib.Core.Bool.{Bool, true, false, false≢true}
@@ -30,6 +30,7 @@ use Rattle.columns.proofs.ColumnLaws.{capped_small, capped_sum, consed, types_ou
 use Rattle.std.specs.Prelude.{Option, Some, None, Result, Ok, Err}
 use Rattle.refusal.specs.declared.Refusal.{Refusal}
 use Rattle.cell_runs.specs.Next.{column_after}
+use Rattle.cells.specs.Cells.{row_in}
 use Rattle.cells.proofs.CellLaws.{width_is}
 
 pub in_among : (i k : ℕ) → 1 ≤ i → i ≤ k → among i k ≡ true
@@ -152,3 +153,25 @@ module _ (f : List ℕ) (l : Layout) (i : ℕ) (q : Opened) (Q : Some q ≡ open
         ∙ sym
         (by_types f l q Q (i + 1) (in_among (i + 1) l.variables (omega arith) high) (got t) S.got_types
         ∙ ap (λ (m : ℕ). column_by (column (get_or t m byte_type) (row_width w (take m t)) (width_in e t))) n)
+
+-- ---- along a row
+
+-- m variables after variable i, whose column is d, the column is c; the row is that of d
+pub record Along (f : List ℕ) (l : Layout) (i : ℕ) (d : Column) (m : ℕ) (c : Column) : Type 0 where
+  pub column : i + m ≤ l.variables → Ok c ≡ column_by (answer_of f l (ask_column (i + m)))
+  pub row : c.row ≡ d.row
+
+pub along_start : (f : List ℕ) (l : Layout) (i : ℕ) (d : Column) → Ok d ≡ column_by (answer_of f l (ask_column i)) → Along f l i d 0 d
+along_start f l i d e = record { column = λ h. e ∙ ap (λ (x : ℕ). column_by (answer_of f l (ask_column x))) (sym (add-zero i)); row = refl }
+
+module _ {f : List ℕ} {l : Layout} {i : ℕ} {d : Column} {m : ℕ} {c : Column} (A : Along f l i d m c) where
+  pub along_next : (x : Field) (r : Column) → r ≡ column_after x c → Ok (column_after x c) ≡ column_by (answer_of f l (ask_column (i + m + 1))) → Along f l i d (m + 1) r
+  along_next x r e k =
+      record { column = λ h. ap Ok e ∙ k ∙ ap (λ (x : ℕ). column_by (answer_of f l (ask_column x))) (add_assoc i m 1); row = ap (λ (y : Column). y.row) e ∙ A.row }
+
+  pub along_end : (r : Column) → r ≡ c → l.variables ≤ i + m → Along f l i d (m + 1) r
+  along_end r e b = record { column = λ h. absurd (omega (arith, h, b)); row = ap (λ (y : Column). y.row) e ∙ A.row }
+
+  -- the row is the same for all
+  pub along_row : (j n p : ℕ) {r : Result ℕ Refusal} → r ≡ row_in f (Ok d.row) j n p → r ≡ row_in f (Ok c.row) j n p
+  along_row j n p e = rw A.row e

@@ -20,6 +20,8 @@ use Rattle.refusal.specs.declared.Refusal.{Refusal}
 use Rattle.refusal.specs.declared.Refusal.TheVariants.{NotThere}
 use Rattle.coded.specs.Coded.{numbers_of, told, following, least, run_of, Tells}
 use Rattle.columns.proofs.ColumnLaws.{among_in}
+use Rattle.cells.proofs.CellLaws.{among_of}
+use Rattle.cell_runs.specs.Held.{times}
 
 -- ---- how many
 
@@ -129,6 +131,26 @@ module _ {f : List ℕ} {l : Layout} {q : ℕ → Question} {d : List ℕ} {m : 
       let E = e ∙ ap (λ (y : Answer). numbers_of y ++ drop 4 (take (length w - m * 4) (drop (m * 4) w))) A in
       record { laid = laid_as (laid_part F.laid g p 4 (four_long (answer_of f l (q m))) h E) s (omega arith) }
 
+-- the list x, of four numbers, is laid m times over d
+pub times_none : (x d : List ℕ) → Laid (times 0 x) (0 * 4) d d
+unfolding times
+times_none x d = laid_as (laid_none d) refl (sym (zero-mul 4))
+
+module _ (x : List ℕ) (m : ℕ) {d w : List ℕ} (L : Laid (times m x) (m * 4) d w) where
+  pub times_on : length x ≡ 4 → m * 4 + 4 ≤ length d → (p : List ℕ) → p ≡ x ++ drop 4 (take (length w - m * 4) (drop (m * 4) w))
+      → Laid (times (m + 1) x) ((m + 1) * 4) d (put_mid (m * 4) (length w - m * 4) w p)
+  unfolding times
+  times_on n h p e = let s : times m x ++ x ≡ times (m + 1) x = sym (ap (λ (k : ℕ). times k x) (add-one m)) in laid_as (laid_part L x p 4 n h e) s (omega arith)
+
+  pub times_all : (n : ℕ) → m ≡ n → w ≡ times n x ++ drop (n * 4) d
+  times_all n e = L.is ∙ ap (λ (k : ℕ). times k x ++ drop (k * 4) d) e
+
+-- answers that are all one
+pub told_times : (f : List ℕ) (l : Layout) (q : ℕ → Question) (x : List ℕ) (n : ℕ) → ((m : ℕ) → m < n → x ≡ numbers_of (answer_of f l (q m))) → times n x ≡ told f l q n
+unfolding told times
+told_times f l q x zero h = refl
+told_times f l q x (suc n) h = ap (λ (y : List ℕ). y ++ x) (told_times f l q x n (λ m k. h m (omega arith))) ∙ ap (λ (y : List ℕ). told f l q n ++ y) (h n (omega arith))
+
 -- of the r answers of the run from cell i, j on, as many as d has room for and at most those from a up to k, the first m are laid over d
 pub record Run (f : List ℕ) (l : Layout) (i j : ℕ) (q : ℕ → Question) (a k : ℕ) (d : List ℕ) (r m : ℕ) (w : List ℕ) : Type 0 where
   pub many : Ok r ≡ run_of l i j (following a k) (length d)
@@ -163,3 +185,14 @@ module _ {f : List ℕ} {l : Layout} {i j : ℕ} {q : ℕ → Question} {a k : �
     pub run_on : (x : Answer) (p : List ℕ) → x ≡ answer_of f l (q m) → p ≡ numbers_of x ++ drop 4 (take (length w - m * 4) (drop (m * 4) w))
         → Run f l i j q a k d r (m + 1) (put_mid (m * 4) (length w - m * 4) w p)
     run_on x p A e = record { many = R.many; upto = omega arith; filled = filled_on R.filled (omega (arith, run_room, run_long)) x p A e }
+
+-- of a run whose answers are all one
+module _ (f : List ℕ) (l : Layout) (i j : ℕ) (q : ℕ → Question) (a k : ℕ) (d : List ℕ) (r : ℕ) (R : Ok r ≡ run_of l i j (following a k) (length d)) where
+  pub run_within : (m : ℕ) → m < r → (1 ≤ a) × (a + m ≤ k)
+  run_within m h = following_in a k m (omega (arith, h, run_few l i j a k (length d) r R))
+
+  pub run_among : (among i l.variables ≡ true) × (among j l.rows ≡ true)
+  run_among = among_of l i j (run_is l i j (following a k) (length d) r R).0
+
+  pub run_times : (x w : List ℕ) → ((m : ℕ) → m < r → x ≡ numbers_of (answer_of f l (q m))) → w ≡ times r x ++ drop (r * 4) d → Tells f l i j q (following a k) d w (Ok r)
+  run_times x w h e = record { answer = R; out = e ∙ ap (λ (y : List ℕ). y ++ drop (r * 4) d) (told_times f l q x r h) }

@@ -1,5 +1,5 @@
 -- A column with the edition and byte order that its cells are read with.
-use Rattle.std.specs.Prelude.{ℕ, List, true, Result, Ok, Err}
+use Rattle.std.specs.Prelude.{ℕ, zero, suc, List, [], ◌++◌, true, Result, Ok, Err}
 use Rattle.format.specs.Dta.{Layout}
 use Rattle.questions.specs.Ask.{answer_of, ask_column}
 use Rattle.refusal.specs.declared.Refusal.{Refusal}
@@ -23,3 +23,8 @@ held_by l c = both (opened_if true (edition_in l.release l.order)) c
 -- .. the column of variable i
 abbrev pub held : List ℕ → Layout → ℕ → Result Held Refusal
 held f l i = held_by l (column_by (answer_of f l (ask_column i)))
+
+-- the list x, n times
+unfoldable pub times : ℕ → List ℕ → List ℕ
+times zero x = []
+times (suc n) x = times n x ++ x

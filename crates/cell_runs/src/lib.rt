@@ -3,7 +3,7 @@
 
 #![tactic(auto)]
 
-ghost use Rattle.std.specs.Prelude.{◌≡◌, ◌++◌, ℕ, ◌+◌, ◌≤◌, ◌<◌, length, drop};
+ghost use Rattle.std.specs.Prelude.{◌≡◌, ◌++◌, ℕ, ◌+◌, ◌*◌, ◌≤◌, ◌<◌, length, drop, Err};
 ghost use Rattle.format.specs.Number.{order_by};
 ghost use Rattle.format.specs.Edition.{n_variable_types};
 ghost use Rattle.questions.specs.Ask.{place, start_of, answer_of, ask_cell};
@@ -15,7 +15,7 @@ ghost use Rattle.asking.specs.Asking.{answer_by, by_cell};
 ghost use Rattle.coded.specs.Coded as Coded;
 ghost use Rattle.coded.specs.Coded.{numbers_of, Tells};
 ghost use Rattle.cell_runs.specs.Next.{column_after, NextInside};
-ghost use Rattle.cell_runs.specs.Held.{held_by, held};
+ghost use Rattle.cell_runs.specs.Held.{held_by, held, times};
 
 use cell::Cell;
 use checking::Layout;
@@ -42,21 +42,25 @@ pub fn held_by(l: Layout, c: Result<Column, Refusal>) -> Result<Held, Refusal>
 // What cell `i`, `j` says, where `h` is the column of variable `i`.
 pub fn cell_in(
     f: &[u8],
-    l: Layout,
-    h: Result<Held, Refusal>,
+    l: &Layout,
+    h: &Result<Held, Refusal>,
     i: u64,
     j: u64,
 ) -> Result<Cell, Refusal>
-    requires { h ≡ held f.now (layout_by l) i }
-    ensures { result ≡ said_by (answer_of f.now (layout_by l) (ask_cell i j)) }
+    requires { h.now ≡ held f.now (layout_by l.now) i }
+    ensures { result ≡ said_by (answer_of f.now (layout_by l.now) (ask_cell i j)) }
 {
-    if !cells::is_cell(l, i, j) {
+    if !cells::is_cell(*l, i, j) {
         return Err(Refusal::NotThere);
     }
-    let h = h?;
-    let gap = reading::tag_size(h.o.e.tagged, 6);
-    let row = cells::row_in(f, h.c.row, j, l.n, l.places[9], gap)?;
-    cells::cell_in_row(f, row, h.c, h.o.e.v_width, h.o.e.o_width, h.o.msf)
+    match h {
+        Ok(h) => {
+            let gap = reading::tag_size(h.o.e.tagged, 6);
+            let row = cells::row_in(f, Ok(h.c.row), j, l.n, l.places[9], gap);
+            cells::cell_in_row(f, row, h.c, h.o.e.v_width, h.o.e.o_width, h.o.msf)
+        }
+        Err(e) => Err(*e),
+    }
 }
 
 // The place of the type codes.
@@ -76,20 +80,6 @@ pub fn column_after(f: &[u8], types: u64, c: Column, i: u64, tagged: bool, msf: 
         offset: c.offset.saturating_add(c.field.width as u64),
         row: c.row,
     }
-}
-
-// The column of variable `i + 1`, where there is one and `h` is that of variable `i`; a refusal stays.
-fn held_after(f: &[u8], l: Layout, h: Result<Held, Refusal>, i: u64) -> Result<Held, Refusal>
-    requires { (h ≡ held f.now (layout_by l) i) × (1 ≤ i) }
-    ensures { i < l.k → result ≡ held f.now (layout_by l) (i + 1) }
-{
-    if l.k <= i {
-        return h;
-    }
-    let h = h?;
-    let types = types_of(l, h.o.e.tagged);
-    let c = column_after(f, types, h.c, i, h.o.e.tagged, h.o.msf);
-    Ok(Held { o: h.o, c })
 }
 
 // Position `k` of the layout.
@@ -143,14 +133,33 @@ fn put_said(out: &mut [u64], said: Result<Cell, Refusal>)
     coded::put_four(out, coded::numbers_of(asking::by_cell(said)));
 }
 
+// Stores `n` times what cells say whose column is refused.
+fn put_refused(out: &mut [u64], n: usize, refusal: Refusal)
+    requires { n * 4 ≤ length out.old }
+    ensures { out.new ≡ times n (numbers_of (answer_by (by_cell (Err refusal)))) ++ drop (n * 4) out.old }
+{
+    for m in 0..n {
+        put_said(&mut out[m * 4..], Err(refusal));
+    }
+}
+
 // The cells of variable `i` from observation `j` on, four numbers each, as many as `out` has room for.
 pub fn cells_down(f: &[u8], l: Layout, i: u64, j: u64, out: &mut [u64]) -> Result<usize, Refusal>
     ensures { Tells f.now (layout_by l) i j (λ (m : ℕ). ask_cell i (j + m)) (Coded.following j l.n) out.old out.new result }
 {
     let n = run_of(l, i, j, j, l.n, out.len())?;
-    let h = held_by(l, columns::column_of(f, l, i));
+    let h = match held_by(l, columns::column_of(f, l, i)) {
+        Ok(h) => h,
+        Err(e) => {
+            put_refused(&mut out[..], n, e);
+            return Ok(n);
+        }
+    };
+    let start = place_of(l, 9);
+    let gap = reading::tag_size(h.o.e.tagged, 6);
     for m in 0..n {
-        let x = cell_in(f, l, h, i, j + m as u64);
+        let row = cells::row_in(f, Ok(h.c.row), j + m as u64, l.n, start, gap);
+        let x = cells::cell_in_row(f, row, h.c, h.o.e.v_width, h.o.e.o_width, h.o.msf);
         put_said(&mut out[m * 4..], x);
     }
     Ok(n)
@@ -161,12 +170,26 @@ pub fn cells_along(f: &[u8], l: Layout, i: u64, j: u64, out: &mut [u64]) -> Resu
     ensures { Tells f.now (layout_by l) i j (λ (m : ℕ). ask_cell (i + m) j) (Coded.following i l.k) out.old out.new result }
 {
     let n = run_of(l, i, j, i, l.k, out.len())?;
-    let mut h = held_by(l, columns::column_of(f, l, i));
+    let h = match held_by(l, columns::column_of(f, l, i)) {
+        Ok(h) => h,
+        Err(e) => {
+            put_refused(&mut out[..], n, e);
+            return Ok(n);
+        }
+    };
+    let o = h.o;
+    let types = types_of(l, o.e.tagged);
+    let start = place_of(l, 9);
+    let gap = reading::tag_size(o.e.tagged, 6);
+    let row = cells::row_in(f, Ok(h.c.row), j, l.n, start, gap);
+    let mut c = h.c;
     for m in 0..n {
         let v = i + m as u64;
-        let x = cell_in(f, l, h, v, j);
+        let x = cells::cell_in_row(f, row, c, o.e.v_width, o.e.o_width, o.msf);
         put_said(&mut out[m * 4..], x);
-        h = held_after(f, l, h, v);
+        if v < l.k {
+            c = column_after(f, types, c, v, o.e.tagged, o.msf);
+        }
     }
     Ok(n)
 }

@@ -26,7 +26,7 @@ module _ (f : List ℕ) (l : Layout) (i j : ℕ) (x : Question) (k : Edition →
     (then : (e : Edition) (o : Order) → answer_in e o f l x ≡ bind (cell_in e o f l i j) (k e o)) where
   -- what the cell answers decides
   pub data Is : Type 0 where
-    away : (c : ℕ) → answer_of f l (ask_cell i j) ≡ refused c → answer_of f l x ≡ refused c → Is
+    away : (c : ℕ) → (c ≡ 0 → ⊥) → answer_of f l (ask_cell i j) ≡ refused c → answer_of f l x ≡ refused c → Is
     here : (s : Says) (q : Opened) → Some q ≡ opened_by (edition_in l.release l.order) → answer_of f l (ask_cell i j) ≡ cell s
         → answer_of f l x ≡ or_refused (k (numbers_of q.e) (order_by q.msf) s) → Is
 
@@ -34,13 +34,13 @@ module _ (f : List ℕ) (l : Layout) (i j : ℕ) (x : Question) (k : Edition →
   cases = go (in_range l (ask_cell i j)) refl (opened_by (edition_in l.release l.order)) refl
     where
       go : (a : Bool) → in_range l (ask_cell i j) ≡ a → (b : Option Opened) → b ≡ opened_by (edition_in l.release l.order) → Is
-      go false a b t = away 16 (answer_out f l (ask_cell i j) a) (answer_out f l x (same ∙ a))
-      go true a None t = away 17 (answer_shut f l (ask_cell i j) a t) (answer_shut f l x (same ∙ a) t)
+      go false a b t = away 16 (λ z. absurd (false≢true (cc z))) (answer_out f l (ask_cell i j) a) (answer_out f l x (same ∙ a))
+      go true a None t = away 17 (λ z. absurd (false≢true (cc z))) (answer_shut f l (ask_cell i j) a t) (answer_shut f l x (same ∙ a) t)
       go true a (Some q) t = on (cell_in (numbers_of q.e) (order_by q.msf) f l i j) refl
         where
           on : (r : Try Says) → cell_in (numbers_of q.e) (order_by q.msf) f l i j ≡ r → Is
           on none m =
-              away 17
+              away 17 (λ z. absurd (false≢true (cc z)))
               (answer_open f l (ask_cell i j) a q t ∙ ap (λ (r : Try Says). or_refused (bind r λ s. got (cell s))) m)
               (answer_open f l x (same ∙ a) q t ∙ ap or_refused (then (numbers_of q.e) (order_by q.msf)) ∙ ap (λ (r : Try Says). or_refused (bind r (k (numbers_of q.e) (order_by q.msf)))) m)
           on (got s) m =
@@ -54,7 +54,7 @@ module _ (f : List ℕ) (l : Layout) (i j : ℕ) (x : Question) (k : Edition →
   after_refused by b d D = go cases
     where
       go : Is → Err d ≡ by (answer_of f l x)
-      go (away c m n) = let z : d ≡ refusal_by c = cc (D ∙ ap said_by m) in ap Err z ∙ sym (b c) ∙ ap by (sym n)
+      go (away c u m n) = let z : d ≡ refusal_by c = cc (D ∙ ap said_by m) in ap Err z ∙ sym (b c) ∙ ap by (sym n)
       go (here s q t m n) = absurd (false≢true (cc (D ∙ ap said_by m)))
 
   pub record After (c : Cell) : Type 0 where
@@ -66,7 +66,7 @@ module _ (f : List ℕ) (l : Layout) (i j : ℕ) (x : Question) (k : Edition →
   after_said c C = go cases
     where
       go : Is → After c
-      go (away d m n) = absurd (false≢true (cc (C ∙ ap said_by m)))
+      go (away d u m n) = absurd (false≢true (cc (C ∙ ap said_by m)))
       go (here s q t m n) =
           let v : c ≡ cell_by s = cc (C ∙ ap said_by m) in
           let u : says c ≡ s = ap says v ∙ says_back s in

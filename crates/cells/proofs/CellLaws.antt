@@ -38,13 +38,14 @@ use Rattle.answers.specs.Answers.{opened_if}
 use Rattle.answers.proofs.TellLaws.{is_open, tells_open}
 use Rattle.std.specs.Prelude.{Result, Ok, Err, IfOk}
 use Rattle.refusal.specs.declared.Refusal.{Refusal}
+use Rattle.refusal.specs.Refusals.{refusal_by}
 use Rattle.refusal.specs.declared.Refusal.TheVariants.{NotReadable}
 use Rattle.columns.proofs.ColumnLaws.{capped_le, capped_is, among_in, consed, type_is}
 
 -- ---- answers
 
-pub said_none : (a : Answer) → refused 17 ≡ a → Err NotReadable ≡ said_by a
-said_none a h = ap said_by h
+pub said_none : (a : Answer) (c : ℕ) (r : Result Cell Refusal) → r ≡ Err (refusal_by c) → refused c ≡ a → r ≡ said_by a
+said_none a c r e h = e ∙ ap said_by h
 
 -- a cell is what it says
 pub cell_back : (c : Cell) → cell_by (says c) ≡ c
@@ -184,6 +185,10 @@ types_has t o f (suc n) p l e (suc m) h =
 
 -- ---- a column and a row
 
+-- a cell is in range where both its variable and its observation are
+pub among_of : (l : Layout) (i j : ℕ) → in_range l (ask_cell i j) ≡ true → (among i l.variables ≡ true) × (among j l.rows ≡ true)
+among_of l i j h = (and_left (among i l.variables) (among j l.rows) h, and_right (among i l.variables) (among j l.rows) h)
+
 module _ (f : List ℕ) (l : Layout) (i j : ℕ) (q : Opened) (R : Ok q ≡ opened_if (in_range l (ask_cell i j)) (edition_in l.release l.order)) where
   abbrev e : Edition
   e = numbers_of q.e
@@ -198,7 +203,7 @@ module _ (f : List ℕ) (l : Layout) (i j : ℕ) (q : Opened) (R : Ok q ≡ open
   among_both = go (in_range l (ask_cell i j)) refl R
     where
       go : (a : Bool) → in_range l (ask_cell i j) ≡ a → Ok q ≡ opened_if a (edition_in l.release l.order) → (among i l.variables ≡ true) × (among j l.rows ≡ true)
-      go true h k = (and_left (among i l.variables) (among j l.rows) h, and_right (among i l.variables) (among j l.rows) h)
+      go true h k = among_of l i j h
       go false h k = absurd (false≢true (cc k))
 
   -- what the cell's column answers

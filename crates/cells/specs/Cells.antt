@@ -1,5 +1,5 @@
 -- The answers about a cell.
-use Rattle.std.specs.Prelude.{◌≡◌, ℕ, ◌+◌, ◌-◌, ◌*◌, ◌≤◌, List, Bool, true, false, cond, length, Result, Ok, Err}
+use Rattle.std.specs.Prelude.{◌≡◌, ℕ, ◌+◌, ◌-◌, ◌*◌, ◌≤◌, List, Bool, true, false, cond, length, Result, Ok, Err, IfOk}
 use Rattle.format.specs.Number.{Order}
 use Rattle.format.specs.Edition.{Edition}
 use Rattle.format.specs.Variables.{VarType, text_type}
@@ -10,7 +10,7 @@ use Rattle.codes.specs.Fields.{known, type_of}
 use Rattle.cell.specs.declared.Cell.{Cell}
 use Rattle.refusal.specs.declared.Refusal.{Refusal}
 use Rattle.refusal.specs.declared.Refusal.TheVariants.{NotThere, NotReadable}
-use Rattle.refusal.specs.Refusals.{refusal_by}
+use Rattle.refusal.specs.Refusals.{number_of, refusal_by}
 use Rattle.cell.specs.Cells.{cell_by}
 use Rattle.questions.specs.Readings.{Try, none, got, bind}
 use Rattle.questions.specs.Ask.{Answer, refused, count, mark, typed, part, column, labels, cell, plain, long, or_refused, among, cell_at}
@@ -66,13 +66,25 @@ abbrev pub row_by : Try ℕ → Result ℕ Refusal
 row_by none = Err NotReadable
 row_by (got p) = Ok p
 
--- row j of n, of w bytes each from p on
-unfoldable pub row_in : List ℕ → ℕ → ℕ → ℕ → ℕ → Result ℕ Refusal
-row_in f w j n p =
-    let r = row_by (place_in f (p + (j - 1) * w)) in
-    cond (among j n) r (Err NotThere)
+-- row j from p on, where w is the width of a row or the refusal of its column, of which 16 and 17 are known
+abbrev pub row_at : List ℕ → Result ℕ Refusal → ℕ → ℕ → Result ℕ Refusal
+row_at f (Ok w) j p = row_by (place_in f (p + (j - 1) * w))
+row_at f (Err d) j p = Err (refusal_by (number_of d))
 
--- the cells of the row at p can be read: it starts in the file, and their kind is known
-pub record RowRead (f : List ℕ) (p : ℕ) (k : Kind) (w vw ow : ℕ) : Type 0 where
-  pub inside : p ≤ length f
-  pub kind : HasKind k w vw ow
+-- .. of n
+unfoldable pub row_in : List ℕ → Result ℕ Refusal → ℕ → ℕ → ℕ → Result ℕ Refusal
+row_in f w j n p = cond (among j n) (row_at f w j p) (Err NotThere)
+
+-- the row's cells can be read: it starts in the file, and their kind is known
+pub record RowRead (f : List ℕ) (x : Result ℕ Refusal) (k : Kind) (w vw ow : ℕ) : Type 0 where
+  pub inside : IfOk x (λ p. p ≤ length f)
+  pub kind : IfOk x (λ p. HasKind k w vw ow)
+
+-- the cell of a type that stands n bytes into the row: the row's refusal, or what the cell says
+abbrev pub said_in : Edition → Order → List ℕ → Result ℕ Refusal → VarType → ℕ → Result Cell Refusal
+said_in e o f (Ok p) t n = said_by (cell_said e o f t (p + n))
+said_in e o f (Err d) t n = Err d
+
+-- r is that, in any edition with these widths of v and o
+abbrev pub RowSaid : ℕ → ℕ → Order → List ℕ → Result ℕ Refusal → VarType → ℕ → Result Cell Refusal → Type 0
+RowSaid vw ow o f x t n r = (e : Edition) → e.v_width ≡ vw → e.o_width ≡ ow → r ≡ said_in e o f x t n

@@ -2,10 +2,11 @@
 
 ghost use Rattle.std.specs.Prelude.{◌≡◌, ◌+◌};
 ghost use Rattle.format.specs.Number.{order_by};
+ghost use Rattle.refusal.specs.Refusals.{number_of, refusal_by};
 ghost use Rattle.questions.specs.Ask.{in_range, answer_of, ask_column, ask_cell};
 ghost use Rattle.checking.specs.Checks.{layout_by};
 ghost use Rattle.columns.specs.Columns.{column_by};
-ghost use Rattle.cells.specs.Cells.{said_by, is_text, TextSaid, HasKind, CellSaid, row_in, RowRead};
+ghost use Rattle.cells.specs.Cells.{said_by, is_text, TextSaid, HasKind, CellSaid, row_in, RowRead, RowSaid};
 ghost use Rattle.codes.specs.Fields.{type_of};
 
 use cell::Cell;
@@ -52,32 +53,53 @@ fn read_cell(
     Ok(cell::cell_at(f, q, kind, width, vw, ow, msf))
 }
 
-// Where row `j` of `n` stands, `width` bytes each from `start + gap` on.
-pub fn row_in(f: &[u8], width: u64, j: u64, n: u64, start: u64, gap: u64) -> Result<u64, Refusal>
+// The refusal of the rows, by that of their column: 16 stays, any other is 17.
+fn refusal_of_rows(e: Refusal) -> Refusal
+    ensures { result ≡ refusal_by (number_of e) }
+{
+    match e {
+        Refusal::NotThere => Refusal::NotThere,
+        _ => Refusal::NotReadable,
+    }
+}
+
+// Where row `j` of `n` stands, from `start + gap` on, where `width` is that of a row, or the refusal of the column.
+pub fn row_in(
+    f: &[u8],
+    width: Result<u64, Refusal>,
+    j: u64,
+    n: u64,
+    start: u64,
+    gap: u64,
+) -> Result<u64, Refusal>
     ensures { result ≡ row_in f.now width j n (start + gap) }
 {
     if !reading::is_among(j, n) {
         return Err(Refusal::NotThere);
     }
-    reading::place_in(f, start, gap, j - 1, width).ok_or(Refusal::NotReadable)
+    match width {
+        Ok(w) => reading::place_in(f, start, gap, j - 1, w).ok_or(Refusal::NotReadable),
+        Err(e) => Err(refusal_of_rows(e)),
+    }
 }
 
-// The cell of the column `c` in the row at `row`, in an edition with these widths of v and o.
+// The cell of the column `c` in a row, in an edition with these widths of v and o; a refusal of the row stays.
 pub fn cell_in_row(
     f: &[u8],
-    row: u64,
+    row: Result<u64, Refusal>,
     c: Column,
     vw: usize,
     ow: usize,
     msf: bool,
 ) -> Result<Cell, Refusal>
     requires { RowRead f.now row c.field.kind c.field.width vw ow }
-    ensures { CellSaid vw ow (order_by msf) f.now (type_of c.field.kind c.field.width) (row + c.offset) result }
+    ensures { RowSaid vw ow (order_by msf) f.now row (type_of c.field.kind c.field.width) c.offset result }
 {
-    if (f.len() as u64 - row) < c.offset {
+    let p = row?;
+    if (f.len() as u64 - p) < c.offset {
         return Err(Refusal::NotReadable);
     }
-    read_cell(f, row + c.offset, c.field, vw, ow, msf)
+    read_cell(f, p + c.offset, c.field, vw, ow, msf)
 }
 
 // Whether there is a cell `i`, `j`.
@@ -101,7 +123,7 @@ pub fn cell_in_column(
     let o = answers::opened(is_cell(l, i, j), l.edition, l.order)?;
     let c = c?;
     let gap = reading::tag_size(o.e.tagged, 6);
-    let row = row_in(f, c.row, j, l.n, l.places[9], gap)?;
+    let row = row_in(f, Ok(c.row), j, l.n, l.places[9], gap);
     cell_in_row(f, row, c, o.e.v_width, o.e.o_width, o.msf)
 }
 

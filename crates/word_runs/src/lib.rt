@@ -131,7 +131,7 @@ fn words_at(
     requires { (h ≡ held f.now (layout_by l) i) × (SetGiven f.now (layout_by l) i s) × (ListingFits f.now t.now x) }
     ensures { result ≡ words_by (answer_of f.now (layout_by l) (ask_words i j [])) }
 {
-    let said = cell_runs::cell_in(f, l, h, i, j)?;
+    let said = cell_runs::cell_in(f, &l, &h, i, j)?;
     let msf = h?.o.msf;
     words_of(f, s, said, msf, t, x)
 }

@@ -7,10 +7,10 @@ use Rattle.format.specs.Edition.{n_data}
 use Rattle.questions.specs.Ask.{ask_cell}
 use Rattle.checking.specs.Checks.{layout_by}
 use Rattle.reading.proofs.PlaceLaws.{start_is}
-use Rattle.answers.proofs.TellLaws.{tells_refused}
+use Rattle.answers.proofs.TellLaws.{is_open, tells_refused}
 use Rattle.cells.specs.Cells.{said_by, row_in}
 use Rattle.cells.proofs.CellLaws.{cell_unread}
-use Rattle.cells.proofs.RowLaws.{row_unread, can_read, said_in_row}
+use Rattle.cells.proofs.RowLaws.{can_read, said_in_lem, read_is}
 use Rattle.cells.proofs.cell_in_column.Goals as goal
 
 pub returns-in_err-o : goal.returns-in_err-o
@@ -26,33 +26,25 @@ returns-in_err-c c =
     let d : Err c.in_err-c.field-0.0 ≡ a.c = grind arith in
     rw (p.1, p.2) (cell_unread a.f.now (layout_by a.l) a.i a.j c.in_ok-o.o (rw c.is_cell.ensures at c.in_ok-o.ensures) _ (d ∙ c.requires))
 
-pub returns-in_err-row : goal.returns-in_err-row
-returns-in_err-row c =
-    let a = c.args in
-    let l = layout_by a.l in
-    let o = c.in_ok-o.o in
-    let p = err_from_is_err_and c.from_residual-in_err-row.result c.from_residual-in_err-row.ensures.1 in
-    let d : Ok c.in_ok-c.c ≡ a.c = grind arith in
-    let s = start_is o.e.tagged n_data 6 (get_or a.l.places 9 0) c.tag_size-gap.result refl c.tag_size-gap.ensures in
-    rw (p.1, p.2) (row_unread a.f.now l a.i a.j o (rw c.is_cell.ensures at c.in_ok-o.ensures) c.in_ok-c.c (d ∙ c.requires) _
-    (c.in_err-row.ensures ∙ ap (row_in a.f.now c.in_ok-c.c.row a.j a.l.n) s))
-
 pub cell_in_row-requires : goal.cell_in_row-requires
 cell_in_row-requires c =
     let a = c.args in
     let l = layout_by a.l in
     let o = c.in_ok-o.o in
-    let d : Ok c.in_ok-c.c ≡ a.c = grind arith in
+    let k = c.in_ok-c.c in
+    let d : Ok k ≡ a.c = grind arith in
     let s = start_is o.e.tagged n_data 6 (get_or a.l.places 9 0) c.tag_size-gap.result refl c.tag_size-gap.ensures in
-    can_read a.f.now l a.i a.j o (rw c.is_cell.ensures at c.in_ok-o.ensures) c.in_ok-c.c (d ∙ c.requires) c.in_ok-row.row
-    (c.in_ok-row.ensures ∙ ap (row_in a.f.now c.in_ok-c.c.row a.j a.l.n) s)
+    let R = c.row_in-row.ensures ∙ ap (row_in a.f.now (Ok k.row) a.j a.l.n) s in
+    can_read a.f.now l a.i a.j o (read_is (is_open a.f.now l (ask_cell a.i a.j) o (rw c.is_cell.ensures at c.in_ok-o.ensures))) (Ok k) (d ∙ c.requires) k refl c.row_in-row.result R
 
 pub returns : goal.returns
 returns c =
     let a = c.args in
     let l = layout_by a.l in
     let o = c.in_ok-o.o in
-    let d : Ok c.in_ok-c.c ≡ a.c = grind arith in
+    let k = c.in_ok-c.c in
+    let d : Ok k ≡ a.c = grind arith in
     let s = start_is o.e.tagged n_data 6 (get_or a.l.places 9 0) c.tag_size-gap.result refl c.tag_size-gap.ensures in
-    said_in_row a.f.now l a.i a.j o (rw c.is_cell.ensures at c.in_ok-o.ensures) c.in_ok-c.c (d ∙ c.requires) c.in_ok-row.row
-    (c.in_ok-row.ensures ∙ ap (row_in a.f.now c.in_ok-c.c.row a.j a.l.n) s) (omega (arith, c.well_formed.0.0)) _ c.cell_in_row.ensures
+    let R = c.row_in-row.ensures ∙ ap (row_in a.f.now (Ok k.row) a.j a.l.n) s in
+    said_in_lem a.f.now l a.i a.j o (read_is (is_open a.f.now l (ask_cell a.i a.j) o (rw c.is_cell.ensures at c.in_ok-o.ensures))) (Ok k) (d ∙ c.requires) k refl c.row_in-row.result R
+    (omega (arith, c.well_formed.0.0)) _ c.cell_in_row.ensures

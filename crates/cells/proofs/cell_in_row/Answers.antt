@@ -1,15 +1,30 @@
-use Prim.Native.Nat.{◌+◌}
+use mathlib.Core.Path.{◌≡◌, refl, sym, ap, ◌∙◌}
+use Prim.Native.Nat.{ℕ, ◌+◌, ◌≤◌}
 use native.Mathlib.Omega.{arith}
+use lib.ListN.{length}
+use Rattle.std.specs.Prelude.{Result, Ok}
+use Rattle.std.proofs.lemmas.Result.{IfOk-at_ok}
+use Rattle.refusal.specs.declared.Refusal.{Refusal}
 use Rattle.format.specs.Number.{order_by}
 use Rattle.codes.specs.Fields.{type_of}
-use Rattle.cells.specs.Cells.{cell_said}
+use Rattle.cells.specs.Cells.{cell_said, said_in}
 use Rattle.cells.proofs.CellLaws.{said_none, cell_after}
 use Rattle.cells.proofs.cell_in_row.Goals as goal
 
-pub returns-then-f-row : goal.returns-then-f-row
-returns-then-f-row c =
+pub returns-then-f-p : goal.returns-then-f-p
+returns-then-f-p c =
     let a = c.args in
     let x = type_of a.c.field.kind a.c.field.width in
-    let p = a.row + a.c.offset in
+    let p = c.in_ok-p.p in
     let o = order_by a.msf in
-    λ e v u. said_none (cell_said e o a.f.now x p) (cell_after e o a.f.now x p (omega (arith, c.requires.inside, c.if-f-row.true)))
+    let w : a.row ≡ Ok p = c.in_ok-p.was in
+    let h : p ≤ length a.f.now = IfOk-at_ok (λ (y : ℕ). y ≤ length a.f.now) w c.requires.inside in
+    λ e v u.
+    said_none (cell_said e o a.f.now x (p + a.c.offset)) 17 _ refl (cell_after e o a.f.now x (p + a.c.offset) (omega (arith, h, c.if-f-p.true)))
+    ∙ ap (λ (y : Result ℕ Refusal). said_in e o a.f.now y x a.c.offset) (sym w)
+
+pub returns : goal.returns
+returns c =
+    let a = c.args in
+    let w : a.row ≡ Ok c.in_ok-p.p = c.in_ok-p.was in
+    λ e v u. c.read_cell.ensures e v u ∙ ap (λ (y : Result ℕ Refusal). said_in e (order_by a.msf) a.f.now y (type_of a.c.field.kind a.c.field.width) a.c.offset) (sym w)

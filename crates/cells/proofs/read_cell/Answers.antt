@@ -1,4 +1,4 @@
-use mathlib.Core.Path.{◌≡◌, sym}
+use mathlib.Core.Path.{◌≡◌, refl, sym}
 use Prim.Native.Nat.{ℕ, ◌+◌, ◌<◌}
 use lib.ListN.{length}
 use native.Mathlib.Omega.{arith}
@@ -30,7 +30,7 @@ returns-then-f-q c =
       | then-f-q-via-else-f-q+then-f-q-2 x ↦ omega arith
     ] in
     λ e v u.
-    said_none (cell_said e (order_by a.msf) a.f.now (type_of a.field.kind a.field.width) a.p)
+    said_none (cell_said e (order_by a.msf) a.f.now (type_of a.field.kind a.field.width) a.p) 17 _ refl
     (cell_out e (order_by a.msf) a.f.now a.field.kind a.field.width a.p (sym c.if-is_text.ensures) g.kind (width_in e a.vw a.ow v u a.field.kind a.field.width g) out)
 
 pub cell_at-requires : goal.cell_at-requires

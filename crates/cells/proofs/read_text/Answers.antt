@@ -13,7 +13,7 @@ returns-in_err-n c =
     let a = c.args in
     let z : None ≡ c.text_in.result = grind arith in
     let r : c.from_residual.result ≡ Err NotReadable = grind arith in
-    λ e o. r ∙ said_none (cell_said e o a.f.now (text_type a.width) a.p) (text_said_none e o a.f.now a.width a.p (read_none _ (z ∙ c.text_in.ensures)))
+    λ e o. said_none (cell_said e o a.f.now (text_type a.width) a.p) 17 _ r (text_said_none e o a.f.now a.width a.p (read_none _ (z ∙ c.text_in.ensures)))
 
 pub returns : goal.returns
 returns c =
