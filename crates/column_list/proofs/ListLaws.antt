@@ -2,9 +2,9 @@
 use mathlib.Core.Path.{◌≡◌, refl, sym, ap, ◌∙◌, subst}
 use Prim.Native.Nat.{ℕ, ◌+◌, ◌-◌, ◌*◌, ◌≤◌, ◌<◌}
 use native.Mathlib.Omega.{arith}
-use mathlib.Core.List.{List}
+use mathlib.Core.List.{List, ◌++◌}
 use mathlib.Core.Bool.{Bool, true, false, false≢true}
-use lib.ListN.{length, get_or, set, length-set}
+use lib.ListN.{length, get_or, set, length-set, drop, replicate, length-append, length-drop, length-replicate, get_or-append}
 use lib.Seq.{get_or-set_same, get_or-set_other}
 use lib.Dec.{eqb, leb}
 use borrow.Author.Tests.{eqb-true, eqb-false}
@@ -30,7 +30,8 @@ use Rattle.coded.specs.Coded.{least}
 use Rattle.cell_runs.specs.Next.{column_after}
 use Rattle.cell_runs.proofs.RunLaws.{least_both}
 use Rattle.cell_runs.proofs.NextLaws.{in_among, refused_as, by_types, column_as, stands, code_inside, field_is, column_next}
-use Rattle.column_list.specs.Offsets.{Offsets, Kept}
+use Rattle.std.proofs.lemmas.List.{get_or-replicate, get_or-append_right, get_or-drop}
+use Rattle.column_list.specs.Offsets.{Offsets, Kept, Cleared}
 
 -- a column that is told is that of a variable of the file, whose edition and order are read
 module _ (f : List ℕ) (l : Layout) (i : ℕ) (c : Column) (C : Ok c ≡ column_by (answer_of f l (ask_column i))) where
@@ -64,19 +65,35 @@ at_ok f l t i c C h = subst (λ (r : Result Column Refusal). IfOk r (λ c. get_o
 ok_at : (f : List ℕ) (l : Layout) (t : List ℕ) (i : ℕ) (c : Column) → column_by (answer_of f l (ask_column i)) ≡ Ok c → At f l t i → get_or t (i - 1) 0 ≡ c.offset
 ok_at f l t i c C h = subst (λ (r : Result Column Refusal). IfOk r (λ c. get_or t (i - 1) 0 ≡ c.offset)) C h
 
--- no offset is listed where the first column is refused
+-- zeros are listed where the first column is refused
+module _ (t u : List ℕ) (n : ℕ) (U : u ≡ replicate n 0 ++ drop n t) (h : n ≤ length t) where
+  cleared_long : length u ≡ length t
+  cleared_long = ap length U ∙ length-append (replicate n 0) (drop n t) ∙ rw (length-replicate {A = ℕ} n 0, length-drop n t) (omega arith)
+
+  cleared_in : (k : ℕ) → k < n → get_or u k 0 ≡ 0
+  cleared_in k b =
+      ap (λ (x : List ℕ). get_or x k 0) U ∙ get_or-append (replicate n 0) (drop n t) 0 k (rw (length-replicate {A = ℕ} n 0) b) ∙ get_or-replicate n k 0 0 b
+
+  cleared_past : Kept n t u
+  cleared_past k b =
+      let e : n + (k - n) ≡ k = omega arith in
+      ap (λ (x : List ℕ). get_or x k 0) U ∙ get_or-append_right (replicate n 0) (drop n t) n k 0 (length-replicate n 0) b ∙ get_or-drop n t (k - n) 0 ∙ ap (λ (x : ℕ). get_or t x 0) e
+
 pub listed_none : (f : List ℕ) (l : Layout) (t : List ℕ) → length t ≡ 32768 → (d : Refusal) → Err d ≡ column_by (answer_of f l (ask_column 1))
-    → (Offsets f l t (Err d)) × (Kept (least 32768 l.variables) t t)
-listed_none f l t T d D = (
-  record {
-    long = T;
-    first = D;
-    each = λ i a b h.
-        let k = refused_as f l 1 i (in_among 1 l.variables (omega arith) (omega (arith, a, b))) (in_among i l.variables a b) d D in
-        subst (λ (r : Result Column Refusal). IfOk r (λ c. get_or t (i - 1) 0 ≡ c.offset)) k tt;
-  },
-  λ k h. refl,
-)
+    → (n : ℕ) → n ≡ least 32768 l.variables → (u : List ℕ) → u ≡ replicate n 0 ++ drop n t
+    → (Offsets f l u (Err d)) × (Kept (least 32768 l.variables) t u) × (Cleared (least 32768 l.variables) u (Err d))
+listed_none f l t T d D n N u U =
+    let h : n ≤ length t = omega (arith, N, T, least_both 32768 l.variables) in (
+      record {
+        long = cleared_long t u n U h ∙ T;
+        first = D;
+        each = λ i a b h.
+            let k = refused_as f l 1 i (in_among 1 l.variables (omega arith) (omega (arith, a, b))) (in_among i l.variables a b) d D in
+            subst (λ (r : Result Column Refusal). IfOk r (λ c. get_or u (i - 1) 0 ≡ c.offset)) k tt;
+      },
+      λ k b. cleared_past t u n U h k (omega (arith, b, N)),
+      λ k b. cleared_in t u n U h k (omega (arith, b, N)),
+    )
 
 -- t, which was s, has the offsets of variables 1 to m of the n that are listed, and else what it had; c is the column of variable m
 pub record Listed (f : List ℕ) (l : Layout) (n : ℕ) (s t : List ℕ) (m : ℕ) (c : Column) : Type 0 where
@@ -131,10 +148,11 @@ module _ {f : List ℕ} {l : Layout} {n : ℕ} {s t : List ℕ} {m : ℕ} {c : C
             subst (λ (x : ℕ). IfOk (column_by (answer_of f l (ask_column i))) (λ c. x ≡ c.offset)) (sym k) (L.each i a (omega (arith, b, g)))
 
 pub listed_all : {f : List ℕ} {l : Layout} {n : ℕ} (s : List ℕ) {t : List ℕ} (x : ℕ) {m : ℕ} {c : Column} → Listed f l n (set s 0 x) t m c → n ≤ m
-    → (d : Column) → Ok d ≡ column_by (answer_of f l (ask_column 1)) → (Offsets f l t (Ok d)) × (Kept (least 32768 l.variables) s t)
+    → (d : Column) → Ok d ≡ column_by (answer_of f l (ask_column 1)) → (Offsets f l t (Ok d)) × (Kept (least 32768 l.variables) s t) × (Cleared (least 32768 l.variables) t (Ok d))
 listed_all {f} {l} {n} s {t} x {m} L b d D = (
   record { long = L.long; first = D; each = λ i y z w. L.each i y (omega (arith, b, L.count, least_most 32768 l.variables i w z)) },
   λ k h. L.kept k (omega (arith, h, L.few, L.count)) ∙ get_or-set_other s 0 k x 0 (λ e. omega (arith, h, e, L.some, L.few, L.count)),
+  tt,
 )
 
 -- ---- with the edition and order that are read
