@@ -7,6 +7,8 @@ ghost use Rattle.std.specs.Float.{binary32, binary64};
 ghost use Rattle.format.specs.Variables.{code_of};
 ghost use Rattle.codes.specs.Fields.{type_of};
 ghost use Rattle.cell.specs.Cells.{says};
+ghost use Rattle.questions.specs.Ask.{refused};
+ghost use Rattle.coded.specs.Coded as Coded;
 ghost use Rattle.coded.specs.Coded.{bits_in, cell_numbers, NumbersOf};
 
 use asking::Answer;
@@ -59,12 +61,19 @@ fn type_code(kind: Kind, width: usize) -> u64
     }
 }
 
+// The numbers of a refusal with any number.
+pub fn refused_numbers(number: u8) -> [u64; 4]
+    ensures { result ≡ Coded.numbers_of (refused number) }
+{
+    [0, number as u64, 0, 0]
+}
+
 // The numbers of an answer.
 pub fn numbers_of(x: Answer) -> [u64; 4]
     ensures { NumbersOf x result }
 {
     match x {
-        Answer::Refused(refusal) => [0, refusal.number() as u64, 0, 0],
+        Answer::Refused(refusal) => refused_numbers(refusal.number()),
         Answer::Count(n) => [1, n, 0, 0],
         Answer::YesNo(b) => [2, b as u64, 0, 0],
         Answer::Type(k, w) => [3, type_code(k, w), 0, 0],

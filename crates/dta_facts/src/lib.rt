@@ -98,7 +98,7 @@ fn numbers_of(x: Option<Answer>) -> [u64; 4]
 {
     match x {
         Some(x) => coded::numbers_of(x),
-        None => [0, 255, 0, 0],
+        None => coded::refused_numbers(255),
     }
 }
 
