@@ -35,12 +35,16 @@ pub fn text_field(f: &[u8], start: u64, gap: u64, index: u64, w: usize) -> Resul
     Ok(Part { at, len })
 }
 
-// The bytes of a part: none where they are not in the file.
-pub fn part_of<'a>(f: &'a [u8], part: Part) -> &'a [u8]
-    ensures { result.now ≡ part_in f.now part.at part.len }
+// The bytes of a part: none with a refusal, or where they are not in the file.
+pub fn part_of<'a>(f: &'a [u8], part: Result<Part, Refusal>) -> &'a [u8]
+    ensures { result.now ≡ part_in f.now part }
 {
-    let p = part.at as usize;
-    let n = part.len as usize;
+    let Part { at, len } = match part {
+        Ok(part) => part,
+        Err(_) => return &f[0..0],
+    };
+    let p = at as usize;
+    let n = len as usize;
     if f.len() < p || f.len() - p < n {
         return &f[0..0];
     }

@@ -38,10 +38,10 @@ use Rattle.refusal.specs.Refusals.{number_of}
 use Rattle.std.specs.Prelude.{Option, None, Some, Result, Ok, Err}
 use Rattle.std.proofs.lemmas.Option.{none-some, same_Some}
 use Rattle.walks.specs.Answers.{words_by, set_by}
-use Rattle.walks.specs.Walks.{table_words, ended_by, all_ended, block_labels}
+use Rattle.walks.specs.Walks.{table_words, ended_by, all_ended, placed_in, block_labels}
 use Rattle.walks.proofs.EndedLaws.{set_ended}
 use Rattle.walks.proofs.TextLaws.{TextGot, text_none, text_got}
-use Rattle.label_words.specs.Words.{set_said, placed_in, said_in, sought_words, cell_words}
+use Rattle.label_words.specs.Words.{set_said, said_in, sought_words, cell_words}
 
 -- a text's bytes, as many as it has
 pub text_slice : (w : ℕ) (f : List ℕ) (p : ℕ) → p + length (text_at w f p) ≤ length f → take (length (text_at w f p)) (drop p f) ≡ text_at w f p
@@ -148,7 +148,7 @@ module _ (o : Order) (f : List ℕ) (v : ℤ) where
 -- ---- the words of a cell
 
 -- what is sought
-pub cell_sought : (g : ℤ → Result (Option Part) Refusal) (c : Cell) (k : Key) → k ≡ key_of (says c) → sought_words g k ≡ cell_words g c
+pub cell_sought : (g : ℤ → Result (Option Part) Refusal) (c : Cell) (k : Key) → k ≡ key_of (says c) → sought_words g k ≡ cell_words g (Ok c)
 cell_sought g c k h = ap (sought_words g) h
 
 -- they are what stands at their place, up to its end
@@ -159,8 +159,9 @@ module _ (o : Order) (f : List ℕ) where
   sought_ended (Ok s) (seeks q) = set_ended o f s q
   sought_ended (Err e) (seeks q) = refl
 
-  pub cell_ended : (s : Result (Option LabelSet) Refusal) (c : Cell) → all_ended f (cell_words (placed_in o f s) c) ≡ cell_words (said_in o f s) c
-  cell_ended s c = sym (sought_ended s (key_of (says c)))
+  pub cell_ended : (s : Result (Option LabelSet) Refusal) (c : Result Cell Refusal) → all_ended f (cell_words (placed_in o f s) c) ≡ cell_words (said_in o f s) c
+  cell_ended s (Ok c) = sym (sought_ended s (key_of (says c)))
+  cell_ended s (Err e) = refl
 
 -- of a cell and a set that are those of the layout
 module _ (f : List ℕ) (l : Layout) (i j : ℕ) (s : Result (Option LabelSet) Refusal) (S : s ≡ set_by (answer_of f l (ask_table i))) where
@@ -200,7 +201,7 @@ module _ (f : List ℕ) (l : Layout) (i j : ℕ) (s : Result (Option LabelSet) R
       sought nothing = refl
       sought (seeks v) = ap (λ (x : Result (Option LabelSet) Refusal). said_in (order_by q.msf) f x v) (S ∙ set_open) ∙ set_words_lem (order_by q.msf) f v (numbers_of q.e) l i
 
-      pub words_are : cell_words (said_in (order_by q.msf) f s) c ≡ words_by (answer_of f l (ask_words i j []))
+      pub words_are : cell_words (said_in (order_by q.msf) f s) (Ok c) ≡ words_by (answer_of f l (ask_words i j []))
       words_are =
           sought (key_of (says c))
           ∙ ap (λ (y : Opened). words_by (or_refused (then (numbers_of y.e) (order_by y.msf) (says c)))) (sym same)

@@ -11,17 +11,13 @@ use Rattle.refusal.specs.declared.Refusal.{Refusal}
 use Rattle.answers.specs.declared.Part.{Part}
 use Rattle.walks.specs.declared.LabelSet.{LabelSet}
 use Rattle.walks.specs.Answers.{words_by}
-use Rattle.walks.specs.Walks.{set_place, set_says}
+use Rattle.walks.specs.Walks.{set_says}
 
 -- the label table of variable i, in an edition and a byte order that are read
 unfoldable pub set_said : Edition → Order → List ℕ → Layout → ℕ → Answer
 set_said e o f l i = or_refused (answer_in e o f l (ask_table i))
 
--- where the words for the value q in a label set stand, and the words: the set's refusal, or the answer
-abbrev pub placed_in : Order → List ℕ → Result (Option LabelSet) Refusal → ℤ → Result (Option Part) Refusal
-placed_in o f (Ok s) q = words_by (set_place o f s q)
-placed_in o f (Err e) q = Err e
-
+-- the words for the value q in a label set: the set's refusal, or the answer
 abbrev pub said_in : Order → List ℕ → Result (Option LabelSet) Refusal → ℤ → Result (Option Part) Refusal
 said_in o f (Ok s) q = words_by (set_says o f s q)
 said_in o f (Err e) q = Err e
@@ -31,6 +27,7 @@ abbrev pub sought_words : (ℤ → Result (Option Part) Refusal) → Key → Res
 sought_words g nothing = Ok None
 sought_words g (seeks q) = g q
 
--- the answer for a cell that says c: that for what it seeks
-abbrev pub cell_words : (ℤ → Result (Option Part) Refusal) → Cell → Result (Option Part) Refusal
-cell_words g c = sought_words g (key_of (says c))
+-- the answer for a cell that says c: its refusal, or that for what it seeks
+abbrev pub cell_words : (ℤ → Result (Option Part) Refusal) → Result Cell Refusal → Result (Option Part) Refusal
+cell_words g (Ok c) = sought_words g (key_of (says c))
+cell_words g (Err e) = Err e

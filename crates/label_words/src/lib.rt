@@ -1,12 +1,13 @@
 #![tactic(auto)]
 
-ghost use Rattle.std.specs.Prelude.{◌≡◌, ◌≤◌, []};
+ghost use Rattle.std.specs.Prelude.{◌≡◌, ◌≤◌, [], IfOk};
 ghost use Rattle.format.specs.Number.{order_by};
 ghost use Rattle.questions.specs.Ask.{answer_of, ask_table, ask_words, shown};
 ghost use Rattle.checking.specs.Checks.{layout_by};
 ghost use Rattle.cell.specs.Cells.{says, Lettered};
-ghost use Rattle.label_words.specs.Words.{set_said, placed_in, said_in, cell_words};
+ghost use Rattle.label_words.specs.Words.{set_said, said_in, cell_words};
 ghost use Rattle.walks.specs.Answers.{words_by, set_by};
+ghost use Rattle.walks.specs.Walks.{placed_in};
 ghost use Rattle.editions.specs.Editions.{numbers_of};
 
 use answers::Part;
@@ -47,18 +48,18 @@ pub fn set_of(f: &[u8], l: Layout, i: u64) -> Result<Option<LabelSet>, Refusal>
 }
 
 // Where the label words of a cell that says `c`, of a variable with the label set `s`, stand, and how many text bytes are left from there on; none
-// where the plain text is shown.
+// where the plain text is shown. A refused cell has its refusal.
 pub fn cell_place(
     f: &[u8],
     s: Result<Option<LabelSet>, Refusal>,
-    c: Cell,
+    c: Result<Cell, Refusal>,
     msf: bool,
 ) -> Result<Option<Part>, Refusal>
-    requires { Lettered (says c) }
+    requires { IfOk c (λ x. Lettered (says x)) }
     ensures { result ≡ cell_words (placed_in (order_by msf) f.now s) c }
 {
-    match cell::key_of(c) {
-        Some(q) => walks::place_in_set(f, s?, q, msf),
+    match cell::key_of(c?) {
+        Some(q) => walks::place_in_set(f, s, q, msf),
         None => Ok(None),
     }
 }
@@ -67,13 +68,13 @@ pub fn cell_place(
 pub fn cell_words(
     f: &[u8],
     s: Result<Option<LabelSet>, Refusal>,
-    c: Cell,
+    c: Result<Cell, Refusal>,
     msf: bool,
 ) -> Result<Option<Part>, Refusal>
-    requires { Lettered (says c) }
+    requires { IfOk c (λ x. Lettered (says x)) }
     ensures { result ≡ cell_words (said_in (order_by msf) f.now s) c }
 {
-    walks::ended(f, cell_place(f, s, c, msf)?)
+    walks::ended(f, cell_place(f, s, c, msf))
 }
 
 // The label words of cell `i`, `j`: where they stand; none where the plain text is shown.
@@ -82,7 +83,7 @@ pub fn label_words(f: &[u8], l: Layout, i: u64, j: u64) -> Result<Option<Part>, 
 {
     let c = cells::cell_of(f, l, i, j)?;
     let o = reading::edition_in(l.edition, l.order).ok_or(Refusal::NotReadable)?;
-    cell_words(f, set_of(f, l, i), c, o.msf)
+    cell_words(f, set_of(f, l, i), Ok(c), o.msf)
 }
 
 // The label words of cell `i`, `j`: the label's own bytes in the file, without the terminator, or the plain text; empty with a refusal.

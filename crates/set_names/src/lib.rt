@@ -22,7 +22,7 @@ pub fn is_less(f: &[u8], a: Part, b: Part) -> bool
     requires { (a.at + a.len ≤ length f.now) × (b.at + b.len ≤ length f.now) }
     ensures { result ≡ less (slice f.now a.at a.len) (slice f.now b.at b.len) }
 {
-    answers::part_of(f, a) < answers::part_of(f, b)
+    answers::part_of(f, Ok(a)) < answers::part_of(f, Ok(b))
 }
 
 // Whether the variables are listed in the order of their label-set names.

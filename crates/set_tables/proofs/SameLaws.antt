@@ -12,6 +12,7 @@ use Rattle.std.specs.Cmp.Lexicographic.{pointwise}
 use Rattle.format.specs.Dta.{same_list}
 use Rattle.questions.specs.Ask.{slice}
 use Rattle.answers.specs.Answers.{part_in}
+use Rattle.std.specs.Prelude.{Ok}
 
 pub same_swap : (a b : List ℕ) → same_list a b ≡ same_list b a
 same_swap [] [] = refl
@@ -34,5 +35,5 @@ pub slice_long : (f : List ℕ) (p n : ℕ) → p + n ≤ length f → length (s
 slice_long f p n h = length-take-le n (drop p f) (simp length-drop (omega arith))
 
 -- the bytes of a part that is in the file
-pub part_there : (f : List ℕ) (p n : ℕ) {a s : List ℕ} → a ≡ part_in f p n → p + n ≤ length f → slice f p n ≡ s → a ≡ s
+pub part_there : (f : List ℕ) (p n : ℕ) {a s : List ℕ} → a ≡ part_in f (Ok (record { at = p; len = n })) → p + n ≤ length f → slice f p n ≡ s → a ≡ s
 part_there f p n e h k = e ∙ (rw (le-leb (p + n) (length f) h) k)

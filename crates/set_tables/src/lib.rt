@@ -36,8 +36,11 @@ fn is_next(t: &[u64; 32768], f: &[u8], l: Layout, v: &[u64], k: usize, text: Par
     requires { (text.at + text.len ≤ length f.now) × (k < length v.now) × (length v.now ≤ 32768) }
     ensures { result ≡ is_next f.now (layout_by l) v.now (slice f.now text.at text.len) t.now k }
 {
+    if t[k] != 0 {
+        return false;
+    }
     let name = set_names::name_of(f, l, v[k]);
-    t[k] == 0 && answers::part_of(f, name) == answers::part_of(f, text)
+    answers::part_of(f, Ok(name)) == answers::part_of(f, Ok(text))
 }
 
 // Stores `x` for each variable whose label-set name is `text`, where no block was found for it.

@@ -48,7 +48,7 @@ module _ {f : List ℕ} {a d : Answer} where
   date_refused e P (no c x y) = let h : e ≡ refusal_by c = cc (P ∙ ap part_by x) in ap Err h ∙ ap mark_by (sym y)
   date_refused e P (yes q m x i y) = absurd (false≢true (cc (P ∙ ap part_by x)))
 
-  pub date_marked : (p : Part) → Ok p ≡ part_by a → Dated f a d → Ok (is_date (part_in f p.at p.len)) ≡ mark_by d
+  pub date_marked : (p : Part) → Ok p ≡ part_by a → Dated f a d → Ok (is_date (part_in f (Ok p))) ≡ mark_by d
   date_marked p P (no c x y) = absurd (false≢true (cc (P ∙ ap part_by x)))
   date_marked p P (yes q m x i y) =
       let h : p ≡ record { at = q; len = m } = cc (P ∙ ap part_by x) in

@@ -103,6 +103,11 @@ table_place o f p q =
 abbrev pub set_place : Order → List ℕ → Option LabelSet → ℤ → Answer
 set_place o f s q = in_set (table_place o f) s q
 
+-- .. the set's refusal, where it is refused
+abbrev pub placed_in : Order → List ℕ → Result (Option LabelSet) Refusal → ℤ → Result (Option Part) Refusal
+placed_in o f (Ok s) q = words_by (set_place o f s q)
+placed_in o f (Err e) q = Err e
+
 -- the words at p, of which n bytes are left in the text area: up to the first zero, which must be there
 abbrev pub ended_in : List ℕ → ℕ → ℕ → Try Answer
 ended_in f p n = bind (text_in n f p) λ t. bind (test (ltb (length t) n)) λ u. got (part p (length t))

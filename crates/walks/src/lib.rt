@@ -4,7 +4,7 @@ ghost use Rattle.std.specs.Prelude.{◌≡◌, ℕ, ◌+◌, ◌*◌, ◌<◌, �
 ghost use Rattle.format.specs.Number.{order_by};
 ghost use Rattle.questions.specs.Ask.{or_refused, slice};
 ghost use Rattle.walks.specs.Answers.{long_by, words_by, set_by};
-ghost use Rattle.walks.specs.Walks.{IsSize, is_of, long_at, records_from, entry_place, slot_place, table_place, set_place, ended_by, open_size, close_size, is_sized, IsBlock, same_name, block_labels};
+ghost use Rattle.walks.specs.Walks.{IsSize, is_of, long_at, records_from, entry_place, slot_place, table_place, placed_in, all_ended, open_size, close_size, is_sized, IsBlock, same_name, block_labels};
 
 use answers::Part;
 use refusal::Refusal;
@@ -150,26 +150,27 @@ fn table_place(f: &[u8], p: u64, q: i32, msf: bool) -> Result<Option<Part>, Refu
     slot_place(f, p, v, n, x, q, msf)
 }
 
-// Where the words for the value `q` in a label set stand, and how many text bytes are left from there on; none in a set without labels.
+// Where the words for the value `q` in a label set stand, and how many text bytes are left from there on; none in a set without labels. A refused set has
+// its refusal.
 pub fn place_in_set(
     f: &[u8],
-    s: Option<LabelSet>,
+    s: Result<Option<LabelSet>, Refusal>,
     q: i32,
     msf: bool,
 ) -> Result<Option<Part>, Refusal>
-    ensures { result ≡ words_by (set_place (order_by msf) f.now s q) }
+    ensures { result ≡ placed_in (order_by msf) f.now s q }
 {
-    match s {
+    match s? {
         Some(set) => table_place(f, set.at, q, msf),
         None => Ok(None),
     }
 }
 
-// Part up to their end, by where they stand and how many text bytes are left from there on; none where there are none.
-pub fn ended(f: &[u8], w: Option<Part>) -> Result<Option<Part>, Refusal>
-    ensures { result ≡ ended_by f.now w }
+// Words up to their end, by where they stand and how many text bytes are left from there on; none where there are none. A refusal stays.
+pub fn ended(f: &[u8], w: Result<Option<Part>, Refusal>) -> Result<Option<Part>, Refusal>
+    ensures { result ≡ all_ended f.now w }
 {
-    let Some(Part { at, len: left }) = w else {
+    let Some(Part { at, len: left }) = w? else {
         return Ok(None);
     };
     let len = reading::text_in(f, at, left as usize).ok_or(Refusal::NotReadable)?;
