@@ -11,7 +11,7 @@ use Rattle.text.specs.Texts.{IsTextLength}
 use Rattle.questions.specs.Readings.{got, text_in}
 use Rattle.questions.proofs.ReadLaws.{text_in_lem}
 use Rattle.answers.specs.declared.Part.{Part}
-use Rattle.walks.specs.Walks.{ended_by}
+use Rattle.walks.specs.Walks.{all_ended}
 use Rattle.walks.proofs.EndedLaws.{ended_endless, ended_got}
 use Rattle.word_runs.specs.declared.Area.{Area}
 use Rattle.word_runs.specs.Areas.{InFile, StandsAt}
@@ -24,8 +24,8 @@ module _ (f : List ℕ) (r : Area) (w : Part) (y n : ℕ) (i : InFile f r) (g : 
   is_long : n ≡ length (text_at w.len f w.at)
   is_long = t.is ∙ ap (λ (k : ℕ). length (text_at k f (r.at + y))) (sym g.rest) ∙ ap (λ (k : ℕ). length (text_at w.len f k)) g.from
 
-  pub looked_endless : w.len ≤ n → Err NotReadable ≡ ended_by f (Some w)
+  pub looked_endless : w.len ≤ n → Err NotReadable ≡ all_ended f (Ok (Some w))
   looked_endless h = ended_endless f w.at w.len n is_text is_long h
 
-  pub looked_got : n < w.len → Ok (Some (record { at = w.at; len = n })) ≡ ended_by f (Some w)
+  pub looked_got : n < w.len → Ok (Some (record { at = w.at; len = n })) ≡ all_ended f (Ok (Some w))
   looked_got h = ended_got f w.at w.len n is_text is_long h

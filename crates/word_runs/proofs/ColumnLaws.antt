@@ -41,10 +41,10 @@ module _ (f : List ℕ) (l : Layout) (i j : ℕ) (c : Cell) (C : Ok c ≡ said_b
 
   -- the words of a cell and of a set that are those of the layout
   pub words_by_lem : (h : Held) → Ok h ≡ held f l i → (s : Result (Option LabelSet) Refusal) → lenless s ≡ lenless (set_by (answer_of f l (ask_table i)))
-      → cell_words (said_in (order_by h.o.msf) f s) c ≡ words_by (answer_of f l (ask_words i j []))
+      → cell_words (said_in (order_by h.o.msf) f s) (Ok c) ≡ words_by (answer_of f l (ask_words i j []))
   words_by_lem h H s S =
       let o = order_by h.o.msf in
       let k = set_by (answer_of f l (ask_table i)) in
       let e : said_in o f s ≡ said_in o f k = sym (said_lenless o f s) ∙ ap (said_in o f) S ∙ said_lenless o f k in
-      ap (λ (g : ℤ → Result (Option Part) Refusal). cell_words g c) e
+      ap (λ (g : ℤ → Result (Option Part) Refusal). cell_words g (Ok c)) e
       ∙ words_are f l i j k refl c C h.o (is_read h.o (opened_by (edition_in l.release l.order)) (held_is f l i h H).0)

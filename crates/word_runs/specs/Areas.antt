@@ -2,6 +2,7 @@
 use Rattle.std.specs.Prelude.{◌≡◌, ℕ, ◌+◌, ◌-◌, ◌≤◌, List, length}
 use Rattle.answers.specs.declared.Part.{Part}
 use Rattle.word_runs.specs.declared.Area.{Area}
+use Rattle.word_runs.specs.declared.Listing.{Listing}
 
 -- it lies in the file, and has no more bytes than an accepted file's
 pub record InFile (f : List ℕ) (r : Area) : Type 0 where
@@ -13,3 +14,7 @@ pub record StandsAt (r : Area) (w : Part) (y : ℕ) : Type 0 where
   pub from : r.at + y ≡ w.at
   pub upto : y ≤ r.len
   pub rest : w.len ≡ r.len - y
+
+-- the part of the text area whose bytes have their ends listed
+abbrev pub listed_part : Listing → Area
+listed_part y = record { at = y.area.at; len = y.had }

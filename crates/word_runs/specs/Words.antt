@@ -1,5 +1,5 @@
 -- The label words of a column.
-use Rattle.std.specs.Prelude.{◌≡◌, ℕ, ◌+◌, ◌≤◌, List, [], true, false, Option, IfSome, Result}
+use Rattle.std.specs.Prelude.{◌≡◌, ℕ, ◌+◌, ◌≤◌, List, [], get_or, Option, None, Some, IfSome, Result}
 use Rattle.format.specs.Dta.{Layout}
 use Rattle.questions.specs.Ask.{Question, answer_of, ask_column, ask_table, ask_words}
 use Rattle.refusal.specs.declared.Refusal.{Refusal}
@@ -25,17 +25,33 @@ pub record ColumnGiven (f : List ℕ) (l : Layout) (i : ℕ) (c : Result Column 
   pub column : c ≡ column_by (answer_of f l (ask_column i))
   pub set : SetGiven f l i s
 
--- of the text area that x tells of, which lies in the file, the list t has all ends, where x says so
+-- of the text area that x tells of, which lies in the file, the list t has the ends of the bytes that x says are listed, where these are some
 pub record Lists (f t : List ℕ) (x : Listing) : Type 0 where
   pub area : InFile f x.area
-  pub ends : x.all ≡ true → Ends f x.area.at x.area.len 0 t
+  pub upto : x.had ≤ x.area.len
+  pub ends : (x.had ≡ 0 → ⊥) → Ends f x.area.at x.had 0 t
 
 abbrev pub ListingFits : List ℕ → List ℕ → Option Listing → Type 0
 ListingFits f t x = IfSome x (Lists f t)
 
--- where the ends are not listed, no more text bytes were gone through than the area has
+-- where no ends are listed, no more text bytes were gone through than the area has
 abbrev pub Cheap : Option Listing → Type 0
-Cheap x = IfSome x (λ y. y.all ≡ false → y.spent ≤ y.area.len)
+Cheap x = IfSome x (λ y. y.had ≡ 0 → y.spent ≤ y.area.len)
+
+-- how many bytes have their ends listed
+abbrev pub had_of : Option Listing → ℕ
+had_of (Some y) = y.had
+had_of None = 0
+
+-- where no ends are listed, the list t begins with 0
+abbrev pub Unlisted : Option Listing → List ℕ → Type 0
+Unlisted x t = had_of x ≡ 0 → get_or t 0 0 ≡ 0
+
+-- all three, of what is listed between two words
+pub record Listed (f t : List ℕ) (x : Option Listing) : Type 0 where
+  pub fits : ListingFits f t x
+  pub cheap : Cheap x
+  pub bare : Unlisted x t
 
 -- r fits wherever x does, of the area g
 abbrev pub Resumed : Option Listing → Option Area → Option Listing → Type 0

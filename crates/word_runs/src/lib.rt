@@ -4,7 +4,7 @@
 
 #![tactic(auto)]
 
-ghost use Rattle.std.specs.Prelude.{◌≡◌, [], ◌++◌, ◌+◌, ◌*◌, ◌≤◌, length, drop, Some, IfSome};
+ghost use Rattle.std.specs.Prelude.{◌≡◌, [], ◌++◌, ◌+◌, ◌*◌, ◌≤◌, length, drop, Some, Ok, IfSome, IfOk};
 ghost use Rattle.format.specs.Number.{order_by};
 ghost use Rattle.questions.specs.Ask.{answer_of, ask_words};
 ghost use Rattle.checking.specs.Checks.{layout_by};
@@ -12,11 +12,11 @@ ghost use Rattle.cell.specs.Cells.{says, Lettered};
 ghost use Rattle.cell_runs.specs.Held.{held};
 ghost use Rattle.asking.specs.Asking.{answer_by, by_words};
 ghost use Rattle.walks.specs.Answers.{words_by};
-ghost use Rattle.walks.specs.Walks.{ended_by};
+ghost use Rattle.walks.specs.Walks.{all_ended};
 ghost use Rattle.label_words.specs.Words.{said_in, cell_words};
 ghost use Rattle.text_ends.specs.Ends.{Ends};
-ghost use Rattle.word_runs.specs.Areas.{InFile, StandsAt};
-ghost use Rattle.word_runs.specs.Words.{words_down, SetGiven, ColumnGiven, ListingFits, Cheap, Resumed};
+ghost use Rattle.word_runs.specs.Areas.{InFile, StandsAt, listed_part};
+ghost use Rattle.word_runs.specs.Words.{words_down, SetGiven, ColumnGiven, ListingFits, Cheap, had_of, Unlisted, Listed, Resumed};
 ghost use Rattle.coded.specs.Coded.{numbers_of, told, following, Tells};
 
 use answers::Part;
@@ -34,11 +34,12 @@ pub struct Area {
     pub len: usize,
 }
 
-// What is listed of a text area: whether all of its texts have their ends listed, or none, and how many text bytes were gone through.
+// What is listed of a text area: how many of its bytes have their ends listed, none or those from the first on, and how many text bytes were gone through
+// before.
 #[derive(Clone, Copy)]
 pub struct Listing {
     pub area: Area,
-    pub all: bool,
+    pub had: usize,
     pub spent: u64,
 }
 
@@ -74,10 +75,10 @@ fn place_in_area(area: Area, w: Part) -> Option<usize>
 // Words up to their end: looked up, where they stand in the text area, of which `t` says where texts end.
 fn looked_up(f: &[u8], t: &[u32; 20737], area: Area, w: Part) -> Result<Option<Part>, Refusal>
     requires { (InFile f.now area) × (Ends f.now area.at area.len 0 t.now) }
-    ensures { result ≡ ended_by f.now (Some w) }
+    ensures { result ≡ all_ended f.now (Ok (Some w)) }
 {
     let Some(y) = place_in_area(area, w) else {
-        return walks::ended(f, Some(w));
+        return walks::ended(f, Ok(Some(w)));
     };
     let len = text_ends::length_from(f, t, area.at, area.len, y) as u64;
     if w.len <= len {
@@ -86,18 +87,28 @@ fn looked_up(f: &[u8], t: &[u32; 20737], area: Area, w: Part) -> Result<Option<P
     Ok(Some(Part { at: w.at, len }))
 }
 
-// The same, where `x` tells what is listed of a text area; none where there are none.
+// The part of the text area whose bytes have their ends listed.
+fn listed_part(y: Listing) -> Area
+    ensures { result ≡ listed_part y }
+{
+    Area {
+        at: y.area.at,
+        len: y.had,
+    }
+}
+
+// The same, where `x` tells what is listed of a text area; none where there are none. A refusal stays.
 fn ended_by(
     f: &[u8],
     t: &[u32; 20737],
     x: Option<Listing>,
-    w: Option<Part>,
+    w: Result<Option<Part>, Refusal>,
 ) -> Result<Option<Part>, Refusal>
     requires { ListingFits f.now t.now x }
-    ensures { result ≡ ended_by f.now w }
+    ensures { result ≡ all_ended f.now w }
 {
     match (x, w) {
-        (Some(y), Some(part)) if y.all => looked_up(f, t, y.area, part),
+        (Some(y), Ok(Some(part))) if y.had != 0 => looked_up(f, t, listed_part(y), part),
         _ => walks::ended(f, w),
     }
 }
@@ -106,15 +117,15 @@ fn ended_by(
 fn words_of(
     f: &[u8],
     s: Result<Option<LabelSet>, Refusal>,
-    c: Cell,
+    c: Result<Cell, Refusal>,
     msf: bool,
     t: &[u32; 20737],
     x: Option<Listing>,
 ) -> Result<Option<Part>, Refusal>
-    requires { (Lettered (says c)) × (ListingFits f.now t.now x) }
+    requires { (IfOk c (λ k. Lettered (says k))) × (ListingFits f.now t.now x) }
     ensures { result ≡ cell_words (said_in (order_by msf) f.now s) c }
 {
-    ended_by(f, t, x, label_words::cell_place(f, s, c, msf)?)
+    ended_by(f, t, x, label_words::cell_place(f, s, c, msf))
 }
 
 // The label words of cell `i`, `j`, where `h` is the column of variable `i`, and `s` its label set.
@@ -133,7 +144,7 @@ fn words_at(
 {
     let said = cell_runs::cell_in(f, &l, &h, i, j)?;
     let msf = h?.o.msf;
-    words_of(f, s, said, msf, t, x)
+    words_of(f, s, Ok(said), msf, t, x)
 }
 
 // Stores label words at the start of `out`.
@@ -153,7 +164,7 @@ fn resumed(x: Option<Listing>, g: Option<Area>) -> Option<Listing>
         Some(y) if y.area == area => x,
         _ => Some(Listing {
             area,
-            all: false,
+            had: 0,
             spent: 0,
         }),
     }
@@ -162,19 +173,73 @@ fn resumed(x: Option<Listing>, g: Option<Area>) -> Option<Listing>
 // What is listed, after `n` more text bytes: the ends of all texts, once this is more than the text area has.
 fn listed(t: &mut [u32; 20737], f: &[u8], x: Option<Listing>, n: u64) -> Option<Listing>
     requires { ListingFits f.now t.old x }
-    ensures { (ListingFits f.now t.new result) × (Cheap result) }
+    ensures { (ListingFits f.now t.new result) × (Cheap result) × (Unlisted x t.old → Unlisted result t.new) }
 {
     let mut y = x?;
     y.spent = y.spent.saturating_add(n);
-    if !y.all && (y.area.len as u64) < y.spent {
+    if y.had == 0 && (y.area.len as u64) < y.spent {
         text_ends::fill_ends(t, f, y.area.at, y.area.len);
-        y.all = true;
+        y.had = y.area.len;
+        y.spent = 0;
     }
     Some(y)
 }
 
+// How many bytes have their ends listed.
+fn had_of(x: Option<Listing>) -> usize
+    ensures { result ≡ had_of x }
+{
+    match x {
+        Some(y) => y.had,
+        None => 0,
+    }
+}
+
+// What is listed before the first words; where that is nothing the list begins with 0.
+fn begun(t: &mut [u32; 20737], f: &[u8], x: Option<Listing>) -> Option<Listing>
+    requires { ListingFits f.now t.old x }
+    ensures { (ListingFits f.now t.new result) × (Cheap result) × (Unlisted result t.new) }
+{
+    let y = listed(t, f, x, 0);
+    if had_of(y) != 0 {
+        return y;
+    }
+    t[0] = 0;
+    y
+}
+
+// The label words of variable `i` in `n` observations from `j` on, where `h` is its column; what is listed after them.
+fn words_from(
+    f: &[u8],
+    l: Layout,
+    i: u64,
+    j: u64,
+    n: usize,
+    h: Result<Held, Refusal>,
+    s: Result<Option<LabelSet>, Refusal>,
+    t: &mut [u32; 20737],
+    x: Option<Listing>,
+    out: &mut [u64],
+) -> Option<Listing>
+    requires { (h ≡ held f.now (layout_by l) i) × (SetGiven f.now (layout_by l) i s) × (Listed f.now t.old x) × (n * 4 ≤ length out.old) × (j + n ≤ 18446744073709551616) }
+    ensures { (out.new ≡ told f.now (layout_by l) (words_down i j) n ++ drop (n * 4) out.old) × (Listed f.now t.new result) }
+{
+    let mut y = x;
+    for m in 0..n {
+        let w = words_at(f, l, i, j + m as u64, h, s, t, y);
+        put_words(&mut out[m * 4..], w);
+        let gone = match w {
+            Ok(Some(part)) => part.len,
+            _ => 0,
+        };
+        y = listed(t, f, y, gone);
+    }
+    y
+}
+
 // The label words of variable `i` in `n` observations from `j` on, four numbers each, where `c` is where its cells stand, `s` its label set, and `t` and `x` tell of
-// the ends that are listed, `x` being none where there are none; what then is. `t` and `x` stay two: what they say is true of a file, which a struct of both would not have.
+// the ends that are listed, `x` being none where there are none; what then is: where no ends are listed `t` begins with 0. `t` and `x` stay two: what they say is true
+// of a file, which a struct of both would not have.
 pub fn words_in(
     f: &[u8],
     l: Layout,
@@ -188,24 +253,15 @@ pub fn words_in(
     out: &mut [u64],
 ) -> Option<Listing>
     requires { (ColumnGiven f.now (layout_by l) i c s) × (ListingFits f.now t.old x) × (n * 4 ≤ length out.old) × (j + n ≤ 18446744073709551616) }
-    ensures { (out.new ≡ told f.now (layout_by l) (words_down i j) n ++ drop (n * 4) out.old) × (ListingFits f.now t.new result) × (Cheap result) }
+    ensures { (out.new ≡ told f.now (layout_by l) (words_down i j) n ++ drop (n * 4) out.old) × (ListingFits f.now t.new result) × (Cheap result) × (Unlisted result t.new) }
 {
     let h = cell_runs::held_by(l, c);
     let area = match (s, h) {
         (Ok(set), Ok(held)) => text_area(f, set, held.o.msf),
         _ => None,
     };
-    let mut y = listed(t, f, resumed(x, area), 0);
-    for m in 0..n {
-        let w = words_at(f, l, i, j + m as u64, h, s, t, y);
-        put_words(&mut out[m * 4..], w);
-        let gone = match w {
-            Ok(Some(part)) => part.len,
-            _ => 0,
-        };
-        y = listed(t, f, y, gone);
-    }
-    y
+    let y = begun(t, f, resumed(x, area));
+    words_from(f, l, i, j, n, h, s, t, y, out)
 }
 
 // The label words of variable `i` from observation `j` on, four numbers each, as many as `out` has room for.

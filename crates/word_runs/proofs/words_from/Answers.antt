@@ -4,19 +4,19 @@ use Rattle.checking.specs.Checks.{layout_by}
 use Rattle.asking.proofs.AskLaws.{words_means}
 use Rattle.cell_runs.proofs.RunLaws.{filled_none, filled_long, filled_on}
 use Rattle.word_runs.specs.Words.{words_down}
-use Rattle.word_runs.proofs.words_in.Goals as goal
+use Rattle.word_runs.proofs.words_from.Goals as goal
 
 pub loop-m-init : goal.loop-m-init
 loop-m-init c =
     let a = c.args in
-    (filled_none a.f.now (layout_by a.l) (words_down a.i a.j) a.out.now, c.listed-y.ensures.0, c.listed-y.ensures.1)
+    (filled_none a.f.now (layout_by a.l) (words_down a.i a.j) a.out.now, c.requires.2)
 
 pub loop-m-preserved : goal.loop-m-preserved
 loop-m-preserved c =
     let a = c.args in
-    let F = c.loop-m.invariant.0 in (
-      filled_on F (omega (arith, c.loop-m-test.true, c.requires.2, filled_long F)) _ _
+    let F = c.loop-m.invariant.0 in
+    let k = c.listed-y.ensures in (
+      filled_on F (omega (arith, c.loop-m-test.true, c.requires.3, filled_long F)) _ _
           (words_means a.f.now (layout_by a.l) a.i (a.j + c.loop-m.m) c.words_at-w.ensures) c.put_words.ensures,
-      c.listed-y-in-loop-m.ensures.0,
-      c.listed-y-in-loop-m.ensures.1,
+      record { fits = k.0; cheap = k.1; bare = k.2 c.loop-m.invariant.1.bare },
     )
