@@ -79,6 +79,14 @@ module _ (B : ℕ → List ℕ) (a w z : ℕ) (fits : a + z ≤ w) where
       ap (λ (u : List ℕ). over (m * w + a) (B m) u) (strewn_left m x y l (omega arith))
       ∙ over_right (m * w) a (B m) (strewn B a w m x) y (strewn_long m x l (omega arith) ∙ e)
 
+-- a kind and a count that are known
+pub run_fits : (s k c n a w : ℕ) → s ≡ k → c ≡ n → a + run_size s c ≤ w → a + run_size k n ≤ w
+run_fits s k c n a w e g b = let z : run_size s c ≡ run_size k n = λ i. run_size (e i) (g i) in omega arith
+
+pub run_strewn : (h : Forms) (s k c n : ℕ) (f : List ℕ) (q a w m : ℕ) (x u : List ℕ) → s ≡ k → c ≡ n → u ≡ strewn (λ (j : ℕ). run_bytes h k n f (q + (j * w + a))) a w m x
+    → u ≡ strewn (λ (j : ℕ). run_bytes h s c f (q + (j * w + a))) a w m x
+run_strewn h s k c n f q a w m x u e g y = y ∙ sym (λ i. strewn (λ (j : ℕ). run_bytes h (e i) (g i) f (q + (j * w + a))) a w m x)
+
 -- ---- all runs
 
 module _ (h : Forms) (f t : List ℕ) (q w : ℕ) where
