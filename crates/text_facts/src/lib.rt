@@ -60,7 +60,8 @@ impl TextList {
     }
 }
 
-// The text of variable `i` in a list.
+// The text of variable `i` in a list. It is inlined, so that a list that is a constant costs nothing.
+#[inline(always)]
 fn text(f: &[u8], l: Layout, i: u64, list: TextList) -> Result<Part, Refusal>
     ensures { result ≡ part_by (answer_of f.now (layout_by l) (asked list i)) }
 {
