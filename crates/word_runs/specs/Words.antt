@@ -1,5 +1,5 @@
 -- The label words of a column.
-use Rattle.std.specs.Prelude.{◌≡◌, ℕ, ◌+◌, ◌≤◌, List, [], get_or, Option, None, Some, IfSome, Result}
+use Rattle.std.specs.Prelude.{◌≡◌, ℕ, ◌+◌, ◌≤◌, List, [], get_or, cond, Option, None, Some, IfSome, Result, IfOk}
 use Rattle.format.specs.Dta.{Layout}
 use Rattle.questions.specs.Ask.{Question, answer_of, ask_column, ask_table, ask_words}
 use Rattle.refusal.specs.declared.Refusal.{Refusal}
@@ -8,6 +8,7 @@ use Rattle.columns.specs.Columns.{column_by}
 use Rattle.walks.specs.declared.LabelSet.{LabelSet}
 use Rattle.walks.specs.Answers.{set_by, lenless}
 use Rattle.text_ends.specs.Ends.{Ends}
+use Rattle.cell_runs.specs.declared.Held.{Held}
 use Rattle.word_runs.specs.declared.Area.{Area}
 use Rattle.word_runs.specs.declared.Listing.{Listing}
 use Rattle.word_runs.specs.Areas.{InFile}
@@ -19,6 +20,10 @@ words_down i j m = ask_words i (j + m) []
 -- s is the label set of variable i, but for the table's length, which words don't need
 abbrev pub SetGiven : List ℕ → Layout → ℕ → Result (Option LabelSet) Refusal → Type 0
 SetGiven f l i s = lenless s ≡ lenless (set_by (answer_of f l (ask_table i)))
+
+-- the tag before the first row has n bytes, where the column is told
+abbrev pub GapGiven : Result Held Refusal → ℕ → Type 0
+GapGiven h n = IfOk h (λ x. n ≡ cond x.o.e.tagged 6 0)
 
 -- c is where the cells of variable i stand, and s is its label set
 pub record ColumnGiven (f : List ℕ) (l : Layout) (i : ℕ) (c : Result Column Refusal) (s : Result (Option LabelSet) Refusal) : Type 0 where

@@ -16,7 +16,7 @@ ghost use Rattle.walks.specs.Walks.{all_ended};
 ghost use Rattle.label_words.specs.Words.{said_in, cell_words};
 ghost use Rattle.text_ends.specs.Ends.{Ends};
 ghost use Rattle.word_runs.specs.Areas.{InFile, StandsAt, listed_part};
-ghost use Rattle.word_runs.specs.Words.{words_down, SetGiven, ColumnGiven, ListingFits, Cheap, had_of, Unlisted, Listed, Resumed};
+ghost use Rattle.word_runs.specs.Words.{words_down, SetGiven, GapGiven, ColumnGiven, ListingFits, Cheap, had_of, Unlisted, Listed, Resumed};
 ghost use Rattle.coded.specs.Coded.{numbers_of, told, following, Tells};
 
 use answers::Part;
@@ -128,23 +128,42 @@ fn words_of(
     ended_by(f, t, x, label_words::cell_place(f, s, c, msf))
 }
 
-// The label words of cell `i`, `j`, where `h` is the column of variable `i`, and `s` its label set.
+// How many bytes the tag before the first row has.
+fn gap_of(h: &Result<Held, Refusal>) -> u64
+    ensures { GapGiven h.now result }
+{
+    match h {
+        Ok(h) => reading::tag_size(h.o.e.tagged, 6),
+        Err(_) => 0,
+    }
+}
+
+// The label words of cell `i`, `j`, where `h` is the column of variable `i`, whose first row stands after a tag of `gap` bytes, and `s` its label set.
 fn words_at(
     f: &[u8],
-    l: Layout,
+    l: &Layout,
     i: u64,
     j: u64,
-    h: Result<Held, Refusal>,
+    gap: u64,
+    h: &Result<Held, Refusal>,
     s: Result<Option<LabelSet>, Refusal>,
     t: &[u32; 20737],
     x: Option<Listing>,
 ) -> Result<Option<Part>, Refusal>
-    requires { (h ≡ held f.now (layout_by l) i) × (SetGiven f.now (layout_by l) i s) × (ListingFits f.now t.now x) }
-    ensures { result ≡ words_by (answer_of f.now (layout_by l) (ask_words i j [])) }
+    requires { (h.now ≡ held f.now (layout_by l.now) i) × (GapGiven h.now gap) × (SetGiven f.now (layout_by l.now) i s) × (ListingFits f.now t.now x) }
+    ensures { result ≡ words_by (answer_of f.now (layout_by l.now) (ask_words i j [])) }
 {
-    let said = cell_runs::cell_in(f, &l, &h, i, j)?;
-    let msf = h?.o.msf;
-    words_of(f, s, Ok(said), msf, t, x)
+    match h {
+        Ok(h) => {
+            let row = cells::row_in(f, Ok(h.c.row), j, l.n, l.places[9], gap);
+            let said = cells::cell_in_row(f, row, h.c, h.o.e.v_width, h.o.e.o_width, h.o.msf);
+            words_of(f, s, said, h.o.msf, t, x)
+        }
+        Err(refusal) => {
+            cell_runs::cell_in(f, l, h, i, j)?;
+            Err(*refusal)
+        }
+    }
 }
 
 // Stores label words at the start of `out`.
@@ -211,22 +230,23 @@ fn begun(t: &mut [u32; 20737], f: &[u8], x: Option<Listing>) -> Option<Listing>
 // The label words of variable `i` in `n` observations from `j` on, where `h` is its column; what is listed after them.
 fn words_from(
     f: &[u8],
-    l: Layout,
+    l: &Layout,
     i: u64,
     j: u64,
     n: usize,
-    h: Result<Held, Refusal>,
+    h: &Result<Held, Refusal>,
     s: Result<Option<LabelSet>, Refusal>,
     t: &mut [u32; 20737],
     x: Option<Listing>,
     out: &mut [u64],
 ) -> Option<Listing>
-    requires { (h ≡ held f.now (layout_by l) i) × (SetGiven f.now (layout_by l) i s) × (Listed f.now t.old x) × (n * 4 ≤ length out.old) × (j + n ≤ 18446744073709551616) }
-    ensures { (out.new ≡ told f.now (layout_by l) (words_down i j) n ++ drop (n * 4) out.old) × (Listed f.now t.new result) }
+    requires { (h.now ≡ held f.now (layout_by l.now) i) × (SetGiven f.now (layout_by l.now) i s) × (Listed f.now t.old x) × (n * 4 ≤ length out.old) × (j + n ≤ 18446744073709551616) }
+    ensures { (out.new ≡ told f.now (layout_by l.now) (words_down i j) n ++ drop (n * 4) out.old) × (Listed f.now t.new result) }
 {
+    let gap = gap_of(h);
     let mut y = x;
     for m in 0..n {
-        let w = words_at(f, l, i, j + m as u64, h, s, t, y);
+        let w = words_at(f, l, i, j + m as u64, gap, h, s, t, y);
         put_words(&mut out[m * 4..], w);
         let gone = match w {
             Ok(Some(part)) => part.len,
@@ -261,7 +281,7 @@ pub fn words_in(
         _ => None,
     };
     let y = begun(t, f, resumed(x, area));
-    words_from(f, l, i, j, n, h, s, t, y, out)
+    words_from(f, &l, i, j, n, &h, s, t, y, out)
 }
 
 // The label words of variable `i` from observation `j` on, four numbers each, as many as `out` has room for.

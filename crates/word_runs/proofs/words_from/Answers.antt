@@ -9,7 +9,7 @@ use Rattle.word_runs.proofs.words_from.Goals as goal
 pub loop-m-init : goal.loop-m-init
 loop-m-init c =
     let a = c.args in
-    (filled_none a.f.now (layout_by a.l) (words_down a.i a.j) a.out.now, c.requires.2)
+    (filled_none a.f.now (layout_by a.l.now) (words_down a.i a.j) a.out.now, c.requires.2)
 
 pub loop-m-preserved : goal.loop-m-preserved
 loop-m-preserved c =
@@ -17,6 +17,6 @@ loop-m-preserved c =
     let F = c.loop-m.invariant.0 in
     let k = c.listed-y.ensures in (
       filled_on F (omega (arith, c.loop-m-test.true, c.requires.3, filled_long F)) _ _
-          (words_means a.f.now (layout_by a.l) a.i (a.j + c.loop-m.m) c.words_at-w.ensures) c.put_words.ensures,
+          (words_means a.f.now (layout_by a.l.now) a.i (a.j + c.loop-m.m) c.words_at-w.ensures) c.put_words.ensures,
       record { fits = k.0; cheap = k.1; bare = k.2 c.loop-m.invariant.1.bare },
     )
