@@ -14,7 +14,7 @@ use Rattle.std.specs.Prelude.{Result, Ok, Err}
 use Rattle.std.specs.Result.{is_ok}
 use Rattle.refusal.specs.declared.Refusal.{Refusal}
 use Rattle.refusal.specs.Refusals.{number_of, code_of}
-use Rattle.section.specs.Judged.{Judged}
+use Rattle.section.specs.Judged.{Judged, Numbered}
 use Rattle.section.proofs.StepLaws.{need_there, some_number}
 
 -- a byte that is not zero is in the file
@@ -64,5 +64,8 @@ closing_by true n = refl
 closing_by false n = refl
 
 -- a tag by its bytes
+pub numbered_by : {l m : List ℕ} (c : ℕ) (f : List ℕ) (p : ℕ) (r : Result ℕ ℕ) → l ≡ m → Numbered (tag l c) f p r → Numbered (tag m c) f p r
+numbered_by c f p r e j = subst (λ (x : List ℕ). Numbered (tag x c) f p r) e j
+
 pub tag_by : {l m : List ℕ} (c : ℕ) (f : List ℕ) (p : ℕ) (r : Result ℕ Refusal) → l ≡ m → Judged (tag l c) f p r → Judged (tag m c) f p r
 tag_by c f p r e j = subst (λ (x : List ℕ). Judged (tag x c) f p r) e j

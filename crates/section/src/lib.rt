@@ -3,7 +3,7 @@
 ghost use Rattle.std.specs.Prelude.{◌≡◌, ℕ, ◌+◌, ◌*◌, ◌≤◌, [], cond, ◌&&◌, ◌||◌, length, eqb};
 ghost use Rattle.format.specs.Grammar.{Sect, tag, within, times, judge_times, between};
 ghost use Rattle.refusal.specs.Refusals.{number_of, code_of};
-ghost use Rattle.section.specs.Judged.{Judged, field};
+ghost use Rattle.section.specs.Judged.{Judged, Numbered, field};
 ghost use Rattle.section.specs.Parts.{Opened};
 
 use refusal::Refusal;
@@ -18,6 +18,21 @@ pub fn tag_if(f: &[u8], p: usize, t: &[u8], refusal: Refusal, there: bool) -> Re
         return Ok(p);
     }
     text::tag_at(f, p, t, refusal)?;
+    Ok(p + t.len())
+}
+
+// The same, refused with the number `c`.
+pub fn tag_code_if(f: &[u8], p: usize, t: &[u8], c: u8, there: bool) -> Result<usize, u8>
+    requires { p ≤ length f.now }
+    ensures { Numbered (tag (cond there t.now []) c) f.now p result }
+{
+    if !there {
+        return Ok(p);
+    }
+    let code = text::tag_code(f, p, t, c);
+    if code != 0 {
+        return Err(code);
+    }
     Ok(p + t.len())
 }
 

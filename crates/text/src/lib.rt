@@ -140,6 +140,17 @@ pub fn same_at(f: &[u8], p: usize, t: &[u8]) -> bool
     true
 }
 
+// The refusal's number of the tag `t` at `p`: 3 where the file ends before the tag does, `c` where its bytes differ, else 0.
+pub fn tag_code(f: &[u8], p: usize, t: &[u8], c: u8) -> u8
+    requires { p ≤ length f.now }
+    ensures { result ≡ (tag t.now c).judge f.now p }
+{
+    if f.len() - p < t.len() {
+        return 3;
+    }
+    if same_at(f, p, t) { 0 } else { c }
+}
+
 // Whether the tag `t` stands at `p`: cut short where the file ends before the tag does, `refusal` where its bytes differ.
 pub fn tag_at(f: &[u8], p: usize, t: &[u8], refusal: Refusal) -> Result<(), Refusal>
     requires { p ≤ length f.now }
