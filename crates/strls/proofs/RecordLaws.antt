@@ -6,8 +6,8 @@ use mathlib.Core.List.{List}
 use mathlib.Core.Bool.{Bool, true, false, cond, and-false}
 use lib.ListN.{length, get_or, get_or-eq_default}
 use lib.Dec.{leb}
-use borrow.Author.Tests.{le-leb, lt-leb, leb-true, leb-false}
-use Rattle.format.specs.Number.{num, tab}
+use borrow.Author.Tests.{ne_eqb, le-leb, lt-leb, leb-true, leb-false}
+use Rattle.format.specs.Number.{Order, num, tab}
 use Rattle.format.specs.Grammar.{Sect, also, need, next, same_at, tag}
 use Rattle.format.specs.Edition.{t_gso}
 use Rattle.format.specs.Data.{LongString, long_next, long_head, long_record}
@@ -17,7 +17,7 @@ use Rattle.refusal.specs.declared.Refusal.TheVariants.{CutShort}
 use Rattle.section.specs.Judged.{Judged}
 use Rattle.section.proofs.StepLaws.{refused}
 use Rattle.strls.specs.declared.Frame.{Frame}
-use Rattle.strls.specs.Records.{order_of, head_size, kind_at, len_at}
+use Rattle.strls.specs.Records.{order_of, head_size, kind_at, len_at, pair_at}
 
 -- ---- whether a record is next
 
@@ -34,6 +34,13 @@ module _ (t : Bool) (f : List ℕ) (p : ℕ) where
       go : (b : Bool) → leb (p + 3) (length f) ≡ b → p + 3 ≤ length f
       go true q = leb-true (p + 3) (length f) q
       go false q = absurd (subst (λ (b : Bool). cond b (Unit {0}) ⊥) (sym h ∙ sym (next_out (leb-false (p + 3) (length f) q))) tt)
+
+-- ---- two numbers
+
+module _ (o : Order) (f : List ℕ) (p v x : ℕ) where
+  module _ (vw ow : ℕ) where
+    pub pair_no : (num o vw f p ≡ v → ⊥) → false ≡ pair_at o vw ow f p v x
+    pair_no h = rw (ne_eqb (num o vw f p) v h)
 
 -- ---- a record, in the grammar
 
