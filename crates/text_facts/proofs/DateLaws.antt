@@ -1,6 +1,6 @@
 -- The date mark.
 use mathlib.Core.Path.{◌≡◌, refl, sym, ap, ◌∙◌}
-use Prim.Native.Nat.{ℕ, ◌+◌, ◌≤◌}
+use Prim.Native.Nat.{ℕ, suc, ◌+◌, ◌≤◌}
 use mathlib.Core.List.{List}
 use mathlib.Core.Bool.{Bool, true, false, false≢true}
 use lib.ListN.{length}
@@ -20,14 +20,18 @@ use Rattle.text_facts.specs.Marks.{mark_by}
 
 -- the answers about a format and its mark go together
 pub data Dated (f : List ℕ) (a d : Answer) : Type 0 where
-  no : (c : ℕ) → a ≡ refused c → d ≡ refused c → Dated f a d
+  no : (c : ℕ) → (c ≡ 0 → ⊥) → a ≡ refused c → d ≡ refused c → Dated f a d
   yes : (p n : ℕ) → a ≡ part p n → p + n ≤ length f → d ≡ mark (is_date (slice f p n)) → Dated f a d
+
+-- a refusal has a number
+some : {n : ℕ} → suc n ≡ 0 → ⊥
+some q = absurd (false≢true (cc q))
 
 dated_text : (f : List ℕ) (w p : ℕ) → Dated f (or_refused (text_part w f p)) (or_refused (bind (text_in w f p) λ t. got (mark (is_date t))))
 dated_text f w p = go (text_in w f p) refl
   where
     go : (x : Try (List ℕ)) → text_in w f p ≡ x → Dated f (or_refused (text_part w f p)) (or_refused (bind (text_in w f p) λ t. got (mark (is_date t))))
-    go none e = no 17 (rw e) (rw e)
+    go none e = no 17 some (rw e) (rw e)
     go (got t) e =
         let s = text_there w f p t e in
         yes p (length t) (rw e) s.0 (rw (e, s.1))
@@ -37,19 +41,19 @@ unfolding answer_of
 dated f l i = go (among i l.variables) refl (release_in l.release) refl (order_in l.order) refl
   where
     go : (b : Bool) → among i l.variables ≡ b → (r : Try Release) → release_in l.release ≡ r → (o : Try Order) → order_in l.order ≡ o → Dated f (answer_of f l (ask_format i)) (answer_of f l (ask_date i))
-    go false h r u o v = no 16 (rw h) (rw h)
-    go true h none u o v = no 17 (rw (h, u)) (rw (h, u))
-    go true h (got r) u none v = no 17 (rw (h, u, v)) (rw (h, u, v))
+    go false h r u o v = no 16 some (rw h) (rw h)
+    go true h none u o v = no 17 some (rw (h, u)) (rw (h, u))
+    go true h (got r) u none v = no 17 some (rw (h, u, v)) (rw (h, u, v))
     go true h (got r) u (got o) v = rw (h, u, v) (dated_text f (edition r).format_width (field_place (edition r).tagged l 5 n_formats (edition r).format_width i))
 
 -- the mark's answer, by that of the format
 module _ {f : List ℕ} {a d : Answer} where
   pub date_refused : (e : Refusal) → Err e ≡ part_by a → Dated f a d → Err e ≡ mark_by d
-  date_refused e P (no c x y) = let h : e ≡ refusal_by c = cc (P ∙ ap part_by x) in ap Err h ∙ ap mark_by (sym y)
+  date_refused e P (no c z x y) = let h : e ≡ refusal_by c = cc (P ∙ ap part_by x) in ap Err h ∙ ap mark_by (sym y)
   date_refused e P (yes q m x i y) = absurd (false≢true (cc (P ∙ ap part_by x)))
 
   pub date_marked : (p : Part) → Ok p ≡ part_by a → Dated f a d → Ok (is_date (part_in f (Ok p))) ≡ mark_by d
-  date_marked p P (no c x y) = absurd (false≢true (cc (P ∙ ap part_by x)))
+  date_marked p P (no c z x y) = absurd (false≢true (cc (P ∙ ap part_by x)))
   date_marked p P (yes q m x i y) =
       let h : p ≡ record { at = q; len = m } = cc (P ∙ ap part_by x) in
       rw (h, le-leb (q + m) (length f) i) (ap mark_by (sym y))
