@@ -27,7 +27,7 @@ use Rattle.reading.proofs.AnswerLaws.{edition_widths, answer_shut, answer_open}
 use Rattle.columns.specs.declared.Column.{Column}
 use Rattle.columns.specs.Columns.{capped, column_by}
 use Rattle.columns.proofs.ColumnLaws.{capped_small, capped_sum, consed, types_out, types_at}
-use Rattle.std.specs.Prelude.{Option, Some, None, Result, Ok, Err}
+use Rattle.std.specs.Prelude.{Option, Some, None, Result, Ok, Err, min}
 use Rattle.refusal.specs.declared.Refusal.{Refusal}
 use Rattle.cell_runs.specs.Next.{column_after}
 use Rattle.cells.specs.Cells.{row_in}
@@ -153,6 +153,19 @@ module _ (f : List ℕ) (l : Layout) (i : ℕ) (q : Opened) (Q : Some q ≡ open
         ∙ sym
         (by_types f l q Q (i + 1) (in_among (i + 1) l.variables (omega arith) high) (got t) S.got_types
         ∙ ap (λ (m : ℕ). column_by (column (get_or t m byte_type) (row_width w (take m t)) (width_in e t))) n)
+
+-- ---- for the code
+
+capped_by : (n m : ℕ) → m ≡ min n 18446744073709551615 → m ≡ capped n
+capped_by n m h = go (leb n 18446744073709551615) refl
+  where
+    go : (b : Bool) → leb n 18446744073709551615 ≡ b → m ≡ capped n
+    go true e = rw e (omega (arith, h, leb-true n 18446744073709551615 e))
+    go false e = rw e (omega (arith, h, leb-false n 18446744073709551615 e))
+
+pub after_is : (x : Field) (c : Column) (y : Field) → y ≡ x → (b : ℕ) → b ≡ min (c.offset + c.field.width) 18446744073709551615
+    → ◌≡◌ {A = Column} (record { field = y; offset = b; row = c.row }) (column_after x c)
+after_is x c y e b h = rw (e, capped_by (c.offset + c.field.width) b h)
 
 -- ---- along a row
 

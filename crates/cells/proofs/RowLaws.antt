@@ -23,13 +23,13 @@ use Rattle.editions.specs.Editions.{numbers_of}
 use Rattle.questions.specs.Ask.{Answer, refused, count, mark, typed, part, column, labels, cell, plain, long, among, start_of, in_range, answer_of, ask_column, ask_cell}
 use Rattle.questions.specs.Readings.{Try, none, got}
 use Rattle.reading.specs.declared.Opened.{Opened}
-use Rattle.reading.specs.Reads.{read_by, opened_by, edition_in}
+use Rattle.reading.specs.Reads.{read_by, place_in, opened_by, edition_in}
 use Rattle.reading.proofs.AnswerLaws.{edition_widths, answer_out, answer_shut}
 use Rattle.answers.specs.Answers.{opened_if}
 use Rattle.answers.proofs.TellLaws.{is_open, tells_refused}
 use Rattle.columns.specs.declared.Column.{Column}
 use Rattle.columns.specs.Columns.{capped, column_by}
-use Rattle.cells.specs.Cells.{said_by, cell_said, HasKind, row_by, row_at, row_in, RowRead, said_in, RowSaid}
+use Rattle.cells.specs.Cells.{said_by, cell_said, HasKind, row_by, row_at, row_in, RowRead, CellSaid, said_in, RowSaid}
 use Rattle.cells.proofs.CellLaws.{among_both, cell_unread, stands, cell_past, far, kind_known, width_is, capped_said}
 
 -- ---- a row
@@ -56,6 +56,9 @@ module _ (f : List ℕ) (d : Refusal) (h : refusal_by (number_of d) ≡ d) (j n 
   row_refused x X false B = let k : Err x ≡ Err NotThere = rw B at X in cc k
 
 module _ (f : List ℕ) (w j n p : ℕ) where
+  pub row_read : among j n ≡ true → (r : Result ℕ Refusal) → r ≡ row_by (place_in f (p + (j - 1) * w)) → r ≡ row_in f (Ok w) j n p
+  row_read h r e = e ∙ sym (row_among f (Ok w) j n p h)
+
   -- of a row that is there
   pub row_past : among j n ≡ true → (d : Refusal) → Err d ≡ row_in f (Ok w) j n p → (d ≡ NotReadable) × (length f < p + (j - 1) * w)
   unfolding row_in
@@ -91,7 +94,7 @@ module _ (f : List ℕ) (l : Layout) (i j : ℕ) (q : Opened) (Q : Ok q ≡ open
   eight = let W = edition_widths l.release l.order q (is_open f l (ask_cell i j) q Q) in omega (arith, W.eight)
 
   -- the row's refusal is that of its cells
-  row_unread : (d : Refusal) → Err d ≡ row_in f (Ok c.row) j l.rows s → Err d ≡ asked
+  pub row_unread : (d : Refusal) → Err d ≡ row_in f (Ok c.row) j l.rows s → Err d ≡ asked
   row_unread d D =
       let S = stands f l i j q Q c C in
       let K = kind_known c S.type (capped S.off) (capped S.row) S.column in
@@ -124,6 +127,10 @@ module _ (f : List ℕ) (l : Layout) (i j : ℕ) (q : Opened) (Q : Ok q ≡ open
       (ap (λ (y : VarType). said_by (cell_said e o f y (r + c.offset))) K.1
       ∙ ap (λ (y : ℕ). said_by (cell_said e o f S.type y)) P
       ∙ ap said_by (capped_said e o f S.type e.tagged eight S.has s (j - 1) S.row S.off n))
+
+  pub said_in_row : (r : ℕ) → Ok r ≡ row_in f (Ok c.row) j l.rows s → length f ≤ 18446744073709551615 → (x : Result Cell Refusal)
+      → CellSaid e.v_width e.o_width (order_by q.msf) f (type_of c.field.kind c.field.width) (r + c.offset) x → x ≡ asked
+  said_in_row r R n x X = X e refl refl ∙ said_at r R n
 
 -- ---- of a column that is told or refused
 

@@ -7,4 +7,4 @@ use Rattle.cell_runs.specs.Held.{times}
 use Rattle.cell_runs.proofs.put_refused.Given as goal
 
 abbrev pub invariant-loop-m : goal.invariant-loop-m
-invariant-loop-m l = Laid (times l.m (numbers_of (answer_by (by_cell (Err l.refusal))))) (l.m * 4) l.initial.out l.out
+invariant-loop-m l = Laid (times l.m (numbers_of (answer_by (by_cell (Err l.fn.refusal))))) (l.m * 4) l.initial.out l.out
