@@ -4,7 +4,7 @@
 -- `rewrite` promises: r is its answer for the file f, the edition e and the byte order o, with an output that held d and then holds w.
 -- `Asked f l q r` is what `ask` promises, of a file and a layout, of a view, and of a file alone with its own layout: r is the answer to the
 -- question q over the file f and the layout l, right or wrong. `r ≡ by (answer_of f l q)` is what a function of one question promises: `by` makes
--- its struct of an answer (`number_by`, `part_by`, `mark_by`, `typed_by`, `column_by`, `set_by`, `said_by`, `long_by`, `words_by`). `text_of f l q`, `long_of f l i j`
+-- its result of an answer (`number_by`, `part_by`, `mark_by`, `typed_by`, `column_by`, `set_by`, `said_by`, `long_by`, `words_by`). `text_of f l q`, `long_of f l i j`
 -- and `words_of f t l i j` are the bytes that the functions hand back that promise bytes. `Tells f l i j q n d w r` is what `cells_down`, `cells_along`, `words_down`
 -- and `words_across` promise, of the answers to q 0, q 1, .. from cell i, j on. `Lists f t d w r` is what `long_list`, `set_list` and `sort_order` promise: r is the answer for the file f, of which the
 -- numbers t are told, `longs_of f`, `sets_of f` or `sorted_of f`, into a slice that held d and then holds w. That each call ends is part of each
@@ -101,7 +101,7 @@ pub record AskGiven (f : List ℕ) (l : Layout) (q : Code.Question) (r : Told.An
   -- else it is what is read
   pub answer : (a : Answer) → in_range l (question_by q) ≡ true → read_for f l (question_by q) ≡ got a → r ≡ told_by a
 
--- the answer r of a function of the question q alone, whose struct `by` makes of an answer: 16, then 17, then what is read, which is no refusal
+-- the answer r of a function of the question q alone, whose result `by` makes of an answer: 16, then 17, then what is read, which is no refusal
 pub record ToldGiven {R : Type 0} (by : Answer → R) (f : List ℕ) (l : Layout) (q : Question) (r : R) : Type 0 where
   pub out_of_range : in_range l q ≡ false → r ≡ by (refused 16)
   pub unread : in_range l q ≡ true → read_for f l q ≡ none → r ≡ by (refused 17)
@@ -315,7 +315,7 @@ pub record DifferInDead (f g : List ℕ) : Type 0 where
   pub long : length g ≡ length f
   pub same : (i : ℕ) → i < length f → (DeadPlace f i → ⊥) → get_or g i 0 ≡ get_or f i 0
 
--- the same answer of a function of the question q alone, whose struct `by` makes of an answer, and the same bytes at the place and length that it names
+-- the same answer of a function of the question q alone, whose result `by` makes of an answer, and the same bytes at the place and length that it names
 pub record SameAnswer {R : Type 0} (by : Answer → R) (f g : List ℕ) (l : Layout) (q : Question) : Type 0 where
   pub answer : (r s : R) → r ≡ by (answer_of f l q) → s ≡ by (answer_of g l q) → s ≡ r
   pub bytes : shown g (answer_of g l q) ≡ shown f (answer_of f l q)
