@@ -130,7 +130,7 @@ fn put_said(out: &mut [u64], said: Result<Cell, Refusal>)
     requires { 4 ≤ length out.old }
     ensures { out.new ≡ numbers_of (answer_by (by_cell said)) ++ drop 4 out.old }
 {
-    coded::put_four(out, coded::numbers_of(asking::by_cell(said)));
+    coded::put_four(out, coded::answer_numbers(asking::by_cell(said)));
 }
 
 // Stores `n` times what cells say whose column is refused.

@@ -5,12 +5,12 @@ use native.Mathlib.Omega.{arith}
 use mathlib.Core.List.{List, []}
 use mathlib.Core.Bool.{Bool, true, false, cond}
 use lib.ListN.{length}
-use borrow.Author.Tests.{eq-eqb, le-leb, lt-leb}
+use borrow.Author.Tests.{eq-eqb, le-leb, lt-leb, ne_eqb}
 use Rattle.format.specs.Number.{Order, order_by}
 use Rattle.format.specs.Grammar.{also, unless, next, done, same_at}
 use Rattle.format.specs.Edition.{Edition, edition, start, order_mark}
 use Rattle.format.specs.Variables.{file_map}
-use Rattle.format.specs.Dta.{Parts, part_sizes, map_rule, same_list, from_map, sections, file_to, known, release_of, edition_of, is_msf, order_of, length_max, verdict, contents, layout_of}
+use Rattle.format.specs.Dta.{Parts, part_sizes, map_rule, same_list, from_map, sections, file_to, known, release_of, edition_of, is_msf, order_of, length_max, verdict, contents, layout_of, no_layout}
 use Rattle.editions.specs.declared.Edition as Code
 use Rattle.editions.specs.Editions.{numbers_of, release_as, read_as}
 use Rattle.format.proofs.EditionLaws.{Widths}
@@ -29,11 +29,16 @@ use Rattle.checking.specs.declared.Walk.{Walk}
 use Rattle.checking.specs.Walks.{Wide, Sectioned}
 use Rattle.checking.specs.Checks.{Checks}
 
+-- a file that is refused has no layout
+bare : (f : List ℕ) (e : Refusal) → number_of e ≡ verdict f → no_layout ≡ layout_of f
+unfolding layout_of
+bare f e h = rw (ne_eqb (verdict f) 0 (λ z. some_number e (h ∙ z)))
+
 module _ (f : List ℕ) where
   -- ---- refusals
 
   pub refused : (e : Refusal) → number_of e ≡ verdict f → Checks f (Err e)
-  refused e h = record { code = h; layout = tt }
+  refused e h = record { code = h; layout = bare f e h }
 
   pub too_long : length_max < length f → 1 ≡ verdict f
   unfolding verdict

@@ -52,9 +52,14 @@ numbers_of (long k p n) = four 14 k p n
 numbers_of (column t p n) = four 15 (code_of true t) p n
 numbers_of (labels s) = label_numbers s
 
--- r is the numbers of the answer x
-abbrev pub NumbersOf : Told.Answer → List ℕ → Type 0
-NumbersOf x r = r ≡ numbers_of (answer_by x)
+-- an answer that is given, or a refusal with any number
+abbrev pub told_as : Result Told.Answer ℕ → Answer
+told_as (Ok x) = answer_by x
+told_as (Err c) = refused c
+
+-- r is the numbers of x
+abbrev pub NumbersOf : Result Told.Answer ℕ → List ℕ → Type 0
+NumbersOf x r = r ≡ numbers_of (told_as x)
 
 -- ---- answers one after another
 

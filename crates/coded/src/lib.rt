@@ -2,7 +2,7 @@
 
 #![tactic(auto)]
 
-ghost use Rattle.std.specs.Prelude.{◌≡◌, ◌++◌, true, ◌≤◌, length, drop};
+ghost use Rattle.std.specs.Prelude.{◌≡◌, ◌++◌, true, ◌≤◌, length, drop, Ok};
 ghost use Rattle.std.specs.Float.{binary32, binary64};
 ghost use Rattle.format.specs.Variables.{code_of};
 ghost use Rattle.codes.specs.Fields.{type_of};
@@ -62,15 +62,15 @@ fn type_code(kind: Kind, width: usize) -> u64
 }
 
 // The numbers of a refusal with any number.
-pub fn refused_numbers(number: u8) -> [u64; 4]
+fn refused_numbers(number: u8) -> [u64; 4]
     ensures { result ≡ Coded.numbers_of (refused number) }
 {
     [0, number as u64, 0, 0]
 }
 
 // The numbers of an answer.
-pub fn numbers_of(x: Answer) -> [u64; 4]
-    ensures { NumbersOf x result }
+pub fn answer_numbers(x: Answer) -> [u64; 4]
+    ensures { NumbersOf (Ok x) result }
 {
     match x {
         Answer::Refused(refusal) => refused_numbers(refusal.number()),
@@ -81,6 +81,16 @@ pub fn numbers_of(x: Answer) -> [u64; 4]
         Answer::Content(c) => cell_numbers(c),
         Answer::Plain => [5, 0, 0, 0],
         Answer::LongString(k, p, n) => [14, k as u64, p, n],
+    }
+}
+
+// The numbers of an answer, or of a refusal with any number.
+pub fn numbers_of(x: Result<Answer, u8>) -> [u64; 4]
+    ensures { NumbersOf x result }
+{
+    match x {
+        Ok(x) => answer_numbers(x),
+        Err(number) => refused_numbers(number),
     }
 }
 

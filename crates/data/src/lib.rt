@@ -45,5 +45,5 @@ pub fn data_list(
 {
     let m = n * row_width(f, types, k, tagged, msf);
     let at = section::opened(f, p, b"<data>", tagged, m)?;
-    section::tag_if(f, at + m, b"</data>", Refusal::WrongTag, tagged)
+    section::tag_or(f, at + m, b"</data>", Refusal::WrongTag, tagged)
 }

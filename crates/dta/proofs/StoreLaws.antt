@@ -6,8 +6,8 @@ use native.Mathlib.Numerals.{add-one}
 use native.Mathlib.Omega.{arith}
 use mathlib.Core.List.{List, [], ◌∷◌, ◌++◌}
 use lib.ListN.{length, get_or, set, take, drop}
-use borrow.Author.Tests.{le-leb, lt-leb, ne_eqb}
-use Rattle.format.specs.Dta.{Layout, verdict, layout_of, no_layout}
+use borrow.Author.Tests.{le-leb, lt-leb}
+use Rattle.format.specs.Dta.{Layout}
 use Rattle.dta.specs.Exports.{numbers, laid, stored}
 use lib.Seq.{sets, sets-eq, length-sets, take_all}
 
@@ -48,8 +48,3 @@ stored_room n (x ∷ d) h = rw (le-leb 1 (length (x ∷ d)) h)
 
 pub stored_none : (n : ℕ) (d : List ℕ) → length d < 1 → d ≡ stored n d
 stored_none n d h = rw (lt-leb 1 (length d) h)
-
--- what is stored with a refusal
-pub refused_layout : (f : List ℕ) → (verdict f ≡ 0 → ⊥) → layout_of f ≡ no_layout
-unfolding layout_of
-refused_layout f h = rw (ne_eqb (verdict f) 0 h)

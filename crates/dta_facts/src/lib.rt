@@ -96,10 +96,7 @@ fn code_of(x: Option<Answer>) -> u8
 fn numbers_of(x: Option<Answer>) -> [u64; 4]
     ensures { result ≡ Coded.numbers_of (given x) }
 {
-    match x {
-        Some(x) => coded::numbers_of(x),
-        None => coded::refused_numbers(255),
-    }
+    coded::numbers_of(x.ok_or(255))
 }
 
 // Stores an answer as four numbers, where `out` has room for them.

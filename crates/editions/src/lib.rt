@@ -29,7 +29,7 @@ fn begins_with(f: &[u8], t: &[u8]) -> bool
     requires { no_zero t.now ≡ true }
     ensures { result ≡ same_at t.now f.now 0 }
 {
-    text::tag_at(f, 0, t, Refusal::UnknownBeginning).is_ok()
+    text::tag_or(f, 0, t, Refusal::UnknownBeginning).is_ok()
 }
 
 // The numbers of 118.

@@ -15,7 +15,7 @@ fn block_next(f: &[u8], p: usize, tagged: bool) -> bool
     ensures { result ≡ expansion_next tagged f.now p }
 {
     if tagged {
-        text::tag_at(f, p, b"<ch>", Refusal::WrongTag).is_ok()
+        text::tag_or(f, p, b"<ch>", Refusal::WrongTag).is_ok()
     } else {
         p < f.len() && f[p] != 0
     }
@@ -61,9 +61,9 @@ fn block(f: &[u8], p: usize, tagged: bool, msf: bool) -> Result<usize, Refusal>
     requires { p ≤ length f.now }
     ensures { Judged (expansion tagged (order_by msf)) f.now p result }
 {
-    let start = section::tag_if(f, p, b"<ch>", Refusal::WrongTag, tagged)?;
+    let start = section::tag_or(f, p, b"<ch>", Refusal::WrongTag, tagged)?;
     let end = contents(f, start, tagged, msf)?;
-    section::tag_if(f, end, b"</ch>", Refusal::WrongTag, tagged)
+    section::tag_or(f, end, b"</ch>", Refusal::WrongTag, tagged)
 }
 
 // What ends the blocks, and the closing tag.
@@ -71,8 +71,8 @@ fn tail(f: &[u8], p: usize, tagged: bool) -> Result<usize, Refusal>
     requires { p ≤ length f.now }
     ensures { Judged (blocks_tail tagged) f.now p result }
 {
-    let end = section::tag_if(f, p, b"\0\0\0\0\0", Refusal::WrongExpansion, !tagged)?;
-    section::tag_if(f, end, b"</characteristics>", Refusal::WrongTag, tagged)
+    let end = section::tag_or(f, p, b"\0\0\0\0\0", Refusal::WrongExpansion, !tagged)?;
+    section::tag_or(f, end, b"</characteristics>", Refusal::WrongTag, tagged)
 }
 
 // The blocks, and what follows them.
@@ -92,6 +92,6 @@ pub fn expansion_list(f: &[u8], p: usize, tagged: bool, msf: bool) -> Result<usi
     requires { p ≤ length f.now }
     ensures { Judged (expansions tagged (order_by msf)) f.now p result }
 {
-    let at = section::tag_if(f, p, b"<characteristics>", Refusal::WrongTag, tagged)?;
+    let at = section::tag_or(f, p, b"<characteristics>", Refusal::WrongTag, tagged)?;
     block_list(f, at, tagged, msf)
 }

@@ -15,7 +15,7 @@ ghost use Rattle.header.specs.Heads.{Begun, Headed};
 
 use editions::Edition;
 use refusal::Refusal;
-use section::tag_if;
+use section::tag_or;
 
 // What a header says that is right: where what follows starts; K and N.
 #[derive(Clone, Copy)]
@@ -93,9 +93,9 @@ fn order_text(f: &[u8], p: usize, msf: bool) -> Result<usize, Refusal>
     ensures { Judged (tag (order_text (order_by msf)) 5) f.now p result }
 {
     if msf {
-        tag_if(f, p, b"MSF", Refusal::WrongHeader, true)
+        tag_or(f, p, b"MSF", Refusal::WrongHeader, true)
     } else {
-        tag_if(f, p, b"LSF", Refusal::WrongHeader, true)
+        tag_or(f, p, b"LSF", Refusal::WrongHeader, true)
     }
 }
 
@@ -104,9 +104,9 @@ fn order_part(f: &[u8], p: usize, msf: bool) -> Result<usize, Refusal>
     requires { p ≤ length f.now }
     ensures { Judged (between (opening true n_byteorder) (closing true n_byteorder) (tag (order_text (order_by msf)) 5)) f.now p result }
 {
-    let a = tag_if(f, p, b"<byteorder>", Refusal::WrongTag, true)?;
+    let a = tag_or(f, p, b"<byteorder>", Refusal::WrongTag, true)?;
     let b = order_text(f, a, msf)?;
-    tag_if(f, b, b"</byteorder>", Refusal::WrongTag, true)
+    tag_or(f, b, b"</byteorder>", Refusal::WrongTag, true)
 }
 
 // A number of `w` bytes, at most `max`, between the tags `first` and `last`: where it ends, and the number.
@@ -122,9 +122,9 @@ fn number_part(
     requires { (p ≤ length f.now) × (w ≤ 8) }
     ensures { (Valued (between first.now last.now (held (order_by msf) w (Most max))) f.now p result) × IfOk result (λ v. v.1 ≤ max) }
 {
-    let a = tag_if(f, p, first, Refusal::WrongTag, true)?;
+    let a = tag_or(f, p, first, Refusal::WrongTag, true)?;
     let n = held_number(f, a, w, Rule::Most(max), msf)?;
-    let b = tag_if(f, a + w, last, Refusal::WrongTag, true)?;
+    let b = tag_or(f, a + w, last, Refusal::WrongTag, true)?;
     Ok((b, n))
 }
 
@@ -141,9 +141,9 @@ fn counted_part(
     requires { (p ≤ length f.now) × (w ≤ 8) }
     ensures { Judged (between first.now last.now (counted (order_by msf) w (holds rule))) f.now p result }
 {
-    let a = tag_if(f, p, first, Refusal::WrongTag, true)?;
+    let a = tag_or(f, p, first, Refusal::WrongTag, true)?;
     let b = counted_text(f, a, w, rule, msf)?;
-    tag_if(f, b, last, Refusal::WrongTag, true)
+    tag_or(f, b, last, Refusal::WrongTag, true)
 }
 
 // A tagged header from the label on; the label's length has `w` bytes and is at most `max`.
@@ -153,7 +153,7 @@ fn new_texts(f: &[u8], p: usize, w: usize, max: u64, msf: bool) -> Result<usize,
 {
     let a = counted_part(f, p, b"<label>", b"</label>", w, Rule::Most(max), msf)?;
     let b = counted_part(f, a, b"<timestamp>", b"</timestamp>", 1, Rule::Stamp, msf)?;
-    tag_if(f, b, b"</header>", Refusal::WrongTag, true)
+    tag_or(f, b, b"</header>", Refusal::WrongTag, true)
 }
 
 // The greatest N that `k` variables allow.

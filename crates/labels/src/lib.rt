@@ -123,11 +123,11 @@ pub fn label_block(f: &[u8], p: usize, tagged: bool, w: usize, msf: bool) -> Res
     requires { (p ≤ length f.now) × (w ≤ 65535) }
     ensures { Judged (block tagged (order_by msf) w) f.now p result }
 {
-    let head = section::tag_if(f, p, b"<lbl>", Refusal::WrongTag, tagged)?;
+    let head = section::tag_or(f, p, b"<lbl>", Refusal::WrongTag, tagged)?;
     let at = block_head(f, head, w, msf)?;
     let n = number::number(f, head, 4, msf) as usize;
     let end = label_table(f, at, n, msf)?;
-    section::tag_if(f, end, b"</lbl>", Refusal::WrongTag, tagged)
+    section::tag_or(f, end, b"</lbl>", Refusal::WrongTag, tagged)
 }
 
 // Whether a label block is next at `p`.
@@ -136,7 +136,7 @@ fn block_next(f: &[u8], p: usize, tagged: bool) -> bool
     ensures { result ≡ block_next tagged f.now p }
 {
     if tagged {
-        text::tag_at(f, p, b"<lbl>", Refusal::WrongTag).is_ok()
+        text::tag_or(f, p, b"<lbl>", Refusal::WrongTag).is_ok()
     } else {
         p < f.len()
     }
@@ -147,8 +147,8 @@ fn file_end(f: &[u8], p: usize, tagged: bool) -> Result<usize, Refusal>
     requires { p ≤ length f.now }
     ensures { Judged (file_end tagged) f.now p result }
 {
-    let last = section::tag_if(f, p, b"</value_labels>", Refusal::WrongTag, tagged)?;
-    let end = section::tag_if(f, last, b"</stata_dta>", Refusal::WrongTag, tagged)?;
+    let last = section::tag_or(f, p, b"</value_labels>", Refusal::WrongTag, tagged)?;
+    let end = section::tag_or(f, last, b"</stata_dta>", Refusal::WrongTag, tagged)?;
     if end != f.len() {
         return Err(Refusal::BytesAfterEnd);
     }
@@ -172,6 +172,6 @@ pub fn label_list(f: &[u8], p: usize, tagged: bool, w: usize, msf: bool) -> Resu
     requires { (p ≤ length f.now) × (w ≤ 65535) }
     ensures { Judged (blocks tagged (order_by msf) w (done 13)) f.now p result }
 {
-    let at = section::tag_if(f, p, b"<value_labels>", Refusal::WrongTag, tagged)?;
+    let at = section::tag_or(f, p, b"<value_labels>", Refusal::WrongTag, tagged)?;
     block_list(f, at, tagged, w, msf)
 }

@@ -24,7 +24,7 @@ pub fn map_list(f: &[u8], p: usize, tagged: bool) -> Result<usize, Refusal>
 {
     let n = map_size(tagged);
     let at = section::opened(f, p, b"<map>", tagged, n)?;
-    section::tag_if(f, at + n, b"</map>", Refusal::WrongTag, tagged)
+    section::tag_or(f, at + n, b"</map>", Refusal::WrongTag, tagged)
 }
 
 // Whether the fourteen positions at `p` are these places.

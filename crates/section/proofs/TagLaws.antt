@@ -7,7 +7,7 @@ use mathlib.Core.Bool.{Bool, true, false, cond, not}
 use lib.ListN.{length, get_or, get_or-eq_default}
 use lib.Dec.{eqb, leb}
 use borrow.Author.Tests.{eqb-true, eqb-false, ne_eqb, leb-true, leb-false, not-true}
-use Rattle.format.specs.Grammar.{also, unless, need, no_zero, same_at, tag}
+use Rattle.format.specs.Grammar.{also, unless, need, next, no_zero, same_at, tag}
 use Rattle.format.specs.Edition.{opening, closing}
 use Rattle.format.proofs.Good.{and_left, and_right}
 use Rattle.std.specs.Prelude.{Result, Ok, Err}
@@ -52,6 +52,29 @@ is_right (Err e) = sym (ne_eqb (number_of e) 0 (some_number e))
 
 pub tag_test : {A : Type 0} (l : List ℕ) (c : ℕ) (f : List ℕ) (p : ℕ) (r : Result A Refusal) → no_zero l ≡ true → p ≤ length f → code_of r ≡ (tag l (suc c)).judge f p → is_ok r ≡ same_at l f p
 tag_test l c f p r z b j = is_right r ∙ ap (λ (n : ℕ). eqb n 0) j ∙ tag_same l c f p z b
+
+-- a tag that is refused, but for want of bytes, is refused with its own number
+pub tag_own : (l : List ℕ) (c : ℕ) (f : List ℕ) (p n : ℕ) → Numbered (tag l c) f p (Err n) → (n ≡ 3 → ⊥) → c ≡ (tag l c).judge f p
+unfolding tag
+tag_own l c f p n j e = go (leb (p + length l) (length f)) refl (same_at l f p) refl
+  where
+    J : ℕ
+    J = (tag l c).judge f p
+
+    is : (n ≡ J) × (J ≡ 0 → ⊥)
+    is = other (eqb J 0) refl
+      where
+        with_it : (t : Bool) → eqb J 0 ≡ t → ◌≡◌ {A = Result ℕ ℕ} (Err n) (cond t (Ok (next (tag l c) f p)) (Err J))
+        with_it t h = j.code ∙ ap (λ (b : Bool). cond {A = Result ℕ ℕ} b (Ok (next (tag l c) f p)) (Err J)) h
+
+        other : (t : Bool) → eqb J 0 ≡ t → (n ≡ J) × (J ≡ 0 → ⊥)
+        other true h = let x : ◌≡◌ {A = Result ℕ ℕ} (Err n) (Ok (next (tag l c) f p)) = with_it true h in absurd cc
+        other false h = let x : ◌≡◌ {A = Result ℕ ℕ} (Err n) (Err J) = with_it false h in (cc, eqb-false J 0 h)
+
+    go : (t : Bool) → leb (p + length l) (length f) ≡ t → (u : Bool) → same_at l f p ≡ u → c ≡ also (need (length l) f p) (unless (same_at l f p) c)
+    go false h u k = absurd (e (is.0 ∙ rw h))
+    go true h true k = absurd (is.1 (rw (h, k)))
+    go true h false k = rw (h, k)
 
 -- ---- tags of an edition that is tagged or not
 

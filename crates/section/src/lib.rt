@@ -8,32 +8,32 @@ ghost use Rattle.section.specs.Parts.{Opened};
 
 use refusal::Refusal;
 
-// The tag `t` where `there`, else no bytes; refused with `refusal`. Like each function that judges a section, it answers where what follows
-// starts.
-pub fn tag_if(f: &[u8], p: usize, t: &[u8], refusal: Refusal, there: bool) -> Result<usize, Refusal>
-    requires { p ≤ length f.now }
-    ensures { Judged (tag (cond there t.now []) (number_of refusal)) f.now p result }
-{
-    if !there {
-        return Ok(p);
-    }
-    text::tag_at(f, p, t, refusal)?;
-    Ok(p + t.len())
-}
-
-// The same, refused with the number `c`.
-pub fn tag_code_if(f: &[u8], p: usize, t: &[u8], c: u8, there: bool) -> Result<usize, u8>
+// The tag `t` where `there`, else no bytes; refused with the number `c`. Like each function that judges a section, it answers where what
+// follows starts.
+pub fn tag_if(f: &[u8], p: usize, t: &[u8], c: u8, there: bool) -> Result<usize, u8>
     requires { p ≤ length f.now }
     ensures { Numbered (tag (cond there t.now []) c) f.now p result }
 {
     if !there {
         return Ok(p);
     }
-    let code = text::tag_code(f, p, t, c);
+    let code = text::tag_at(f, p, t, c);
     if code != 0 {
         return Err(code);
     }
     Ok(p + t.len())
+}
+
+// The same, refused with `refusal`.
+pub fn tag_or(f: &[u8], p: usize, t: &[u8], refusal: Refusal, there: bool) -> Result<usize, Refusal>
+    requires { p ≤ length f.now }
+    ensures { Judged (tag (cond there t.now []) (number_of refusal)) f.now p result }
+{
+    match tag_if(f, p, t, refusal.number(), there) {
+        Ok(at) => Ok(at),
+        Err(3) => Err(Refusal::CutShort),
+        Err(_) => Err(refusal),
+    }
 }
 
 // The first tag of a section, where the edition has tags, and the `n` bytes after it.
@@ -41,7 +41,7 @@ pub fn opened(f: &[u8], p: usize, first: &[u8], tagged: bool, n: usize) -> Resul
     requires { p ≤ length f.now }
     ensures { Opened (cond tagged first.now []) n f.now p result }
 {
-    let at = tag_if(f, p, first, Refusal::WrongTag, tagged)?;
+    let at = tag_or(f, p, first, Refusal::WrongTag, tagged)?;
     if f.len() - at < n {
         return Err(Refusal::CutShort);
     }
@@ -88,5 +88,5 @@ pub fn text_list(
     let n = k * w;
     let at = opened(f, p, first, tagged, n)?;
     texts(f, at, k, w, named)?;
-    tag_if(f, at + n, last, Refusal::WrongTag, tagged)
+    tag_or(f, at + n, last, Refusal::WrongTag, tagged)
 }

@@ -338,7 +338,7 @@ pub fn strl_list(f: &[u8], p: usize, d: Frame) -> Result<usize, Refusal>
     if !d.tagged {
         return Ok(p);
     }
-    let start = section::tag_if(f, p, b"<strls>", Refusal::WrongTag, d.tagged)?;
+    let start = section::tag_or(f, p, b"<strls>", Refusal::WrongTag, d.tagged)?;
     let end = Strls { f, d }.linked_records(start)?;
-    section::tag_if(f, end, b"</strls>", Refusal::WrongTag, d.tagged)
+    section::tag_or(f, end, b"</strls>", Refusal::WrongTag, d.tagged)
 }

@@ -141,7 +141,7 @@ pub fn same_at(f: &[u8], p: usize, t: &[u8]) -> bool
 }
 
 // The refusal's number of the tag `t` at `p`: 3 where the file ends before the tag does, `c` where its bytes differ, else 0.
-pub fn tag_code(f: &[u8], p: usize, t: &[u8], c: u8) -> u8
+pub fn tag_at(f: &[u8], p: usize, t: &[u8], c: u8) -> u8
     requires { p ≤ length f.now }
     ensures { result ≡ (tag t.now c).judge f.now p }
 {
@@ -152,7 +152,7 @@ pub fn tag_code(f: &[u8], p: usize, t: &[u8], c: u8) -> u8
 }
 
 // Whether the tag `t` stands at `p`: cut short where the file ends before the tag does, `refusal` where its bytes differ.
-pub fn tag_at(f: &[u8], p: usize, t: &[u8], refusal: Refusal) -> Result<(), Refusal>
+pub fn tag_or(f: &[u8], p: usize, t: &[u8], refusal: Refusal) -> Result<(), Refusal>
     requires { p ≤ length f.now }
     ensures { code_of result ≡ (tag t.now (number_of refusal)).judge f.now p }
 {

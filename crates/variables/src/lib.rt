@@ -44,7 +44,7 @@ pub fn type_list(f: &[u8], p: usize, k: usize, tagged: bool, msf: bool) -> Resul
     let n = k * codes::code_width(tagged);
     let at = section::opened(f, p, b"<variable_types>", tagged, n)?;
     type_codes(f, at, k, tagged, msf)?;
-    section::tag_if(f, at + n, b"</variable_types>", Refusal::WrongTag, tagged)
+    section::tag_or(f, at + n, b"</variable_types>", Refusal::WrongTag, tagged)
 }
 
 // The refusal of the sort list of `k` variables at `p`: one pass, with a mark for each variable that was seen.
@@ -76,5 +76,5 @@ pub fn sort_list(f: &[u8], p: usize, k: usize, tagged: bool, msf: bool) -> Resul
     let n = (k + 1) * 2;
     let at = section::opened(f, p, b"<sortlist>", tagged, n)?;
     sort_numbers(f, at, k, msf)?;
-    section::tag_if(f, at + n, b"</sortlist>", Refusal::WrongTag, tagged)
+    section::tag_or(f, at + n, b"</sortlist>", Refusal::WrongTag, tagged)
 }

@@ -171,7 +171,7 @@ fn put_words(out: &mut [u64], x: Result<Option<Part>, Refusal>)
     requires { 4 ≤ length out.old }
     ensures { out.new ≡ numbers_of (answer_by (by_words x)) ++ drop 4 out.old }
 {
-    coded::put_four(out, coded::numbers_of(asking::by_words(x)));
+    coded::put_four(out, coded::answer_numbers(asking::by_words(x)));
 }
 
 // What is listed of the text area `g`, where `x` is what is listed of one: the same where it is of that area, else nothing.

@@ -9,5 +9,5 @@ use Rattle.cell_runs.proofs.put_said.Goals as goal
 
 pub returns : goal.returns
 returns c =
-    let y = c.numbers_of.ensures ∙ ap (λ (x : Answer). numbers_of (answer_by x)) c.by_cell.ensures in
+    let y = c.answer_numbers.ensures ∙ ap (λ (x : Answer). numbers_of (answer_by x)) c.by_cell.ensures in
     c.put_four.ensures ∙ ap (λ (x : List ℕ). x ++ drop 4 c.args.out.now) y

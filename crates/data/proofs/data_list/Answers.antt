@@ -29,8 +29,8 @@ overflow_add-at c =
     let r = data_room a.tagged (order_by a.msf) a.f.now a.types a.k a.n a.p c.requires.2.right e c.in_ok-at.ensures in
     omega arith
 
-pub tag_if-requires : goal.tag_if-requires
-tag_if-requires c =
+pub tag_or-requires : goal.tag_or-requires
+tag_or-requires c =
     let a = c.args in
     let e = ap (λ (x : ℕ). a.n * x) c.row_width.ensures in
     data_room a.tagged (order_by a.msf) a.f.now a.types a.k a.n a.p c.requires.2.right e c.in_ok-at.ensures
@@ -39,4 +39,4 @@ pub returns : goal.returns
 returns c =
     let a = c.args in
     let e = ap (λ (x : ℕ). a.n * x) c.row_width.ensures in
-    data_accepted a.tagged (order_by a.msf) a.f.now a.types a.k a.n a.p c.requires.2.right e c.in_ok-at.ensures _ c.tag_if.ensures
+    data_accepted a.tagged (order_by a.msf) a.f.now a.types a.k a.n a.p c.requires.2.right e c.in_ok-at.ensures _ c.tag_or.ensures

@@ -37,4 +37,4 @@ returns c =
     block_told t o f a.p _
     (seq_on (tag (opening t n_ch) 4) (λ x. block_rest t o) f a.p _ (tag_by 4 f a.p _ (opening_by t n_ch) c.in_ok-start.ensures) _
     (regroup (expansion_head t o) (λ h. expansion_body h.1) (tag (closing t n_ch) 4) f _ _
-    (seq_on (contents_of t o) (λ v. tag (closing t n_ch) 4) f _ _ c.in_ok-end.ensures _ (tag_by 4 f _ _ (closing_by t n_ch) c.tag_if-2.ensures))))
+    (seq_on (contents_of t o) (λ v. tag (closing t n_ch) 4) f _ _ c.in_ok-end.ensures _ (tag_by 4 f _ _ (closing_by t n_ch) c.tag_or-2.ensures))))

@@ -20,4 +20,4 @@ returns-in_err-b c =
 pub returns : goal.returns
 returns c =
     let a = c.args in
-    part_judged a.first.now a.last.now (counted (order_by a.msf) a.w (holds a.rule)) a.f.now a.p c.in_ok-a.ensures c.in_ok-b.ensures _ c.tag_if-2.ensures
+    part_judged a.first.now a.last.now (counted (order_by a.msf) a.w (holds a.rule)) a.f.now a.p c.in_ok-a.ensures c.in_ok-b.ensures _ c.tag_or-2.ensures

@@ -18,4 +18,4 @@ returns-in_err-b c =
 pub returns : goal.returns
 returns c =
     let a = c.args in
-    texts_end (order_by a.msf) a.w a.max a.f.now a.p c.in_ok-a.ensures c.in_ok-b.ensures c.tag_if.ensures
+    texts_end (order_by a.msf) a.w a.max a.f.now a.p c.in_ok-a.ensures c.in_ok-b.ensures c.tag_or.ensures

@@ -23,4 +23,4 @@ pub returns : goal.returns
 returns c =
     let a = c.args in
     part_judged (opening true n_byteorder) (closing true n_byteorder) (tag (order_text (order_by a.msf)) 5) a.f.now a.p c.in_ok-a.ensures c.in_ok-b.ensures _
-    c.tag_if-2.ensures
+    c.tag_or-2.ensures

@@ -60,4 +60,4 @@ returns c =
     block_told t o w f a.p _
     (seq_on (tag (opening t n_lbl) 4) (λ u. from_head t o w) f a.p _ A _
     (head_on t o w f _ c.in_ok-at.ensures _ c.number-n.ensures.is _
-    (seq_on (table o c.number-n.result) (λ b. tag (closing t n_lbl) 4) f _ _ c.in_ok-end.ensures _ (tag_by 4 f _ _ (closing_by t n_lbl) c.tag_if-2.ensures))))
+    (seq_on (table o c.number-n.result) (λ b. tag (closing t n_lbl) 4) f _ _ c.in_ok-end.ensures _ (tag_by 4 f _ _ (closing_by t n_lbl) c.tag_or-2.ensures))))

@@ -12,4 +12,4 @@ pub returns : goal.returns
 returns c =
     let a = c.args in
     let w = c.map_size-n.ensures in
-    map_closed a.tagged a.f.now a.p (rw w at c.in_ok-at.ensures) _ (rw w at c.tag_if.ensures)
+    map_closed a.tagged a.f.now a.p (rw w at c.in_ok-at.ensures) _ (rw w at c.tag_or.ensures)

@@ -36,4 +36,4 @@ pub returns : goal.returns
 returns c =
     let a = c.args in
     close_judged (cond a.tagged a.first.now []) (cond a.tagged a.last.now []) (a.k * a.w) (times (field a.named a.w) a.k) a.f.now a.p c.in_ok-at.ensures
-    _ _ c.in_ok-texts.ensures (sym (times_next (field a.named a.w) a.w (field_size a.named a.w) a.k a.f.now c.in_ok-at.at)) c.tag_if.ensures
+    _ _ c.in_ok-texts.ensures (sym (times_next (field a.named a.w) a.w (field_size a.named a.w) a.k a.f.now c.in_ok-at.at)) c.tag_or.ensures

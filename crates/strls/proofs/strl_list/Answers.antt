@@ -22,4 +22,4 @@ returns-in_err-end c =
 pub returns : goal.returns
 returns c =
     let a = c.args in
-    closed_judged a.f.now a.d a.p (first_by a.f.now a.d a.p _ c.in_ok-start.ensures) c.in_ok-end.ensures _ c.tag_if-2.ensures
+    closed_judged a.f.now a.d a.p (first_by a.f.now a.d a.p _ c.in_ok-start.ensures) c.in_ok-end.ensures _ c.tag_or-2.ensures

@@ -41,4 +41,4 @@ returns c =
     let S = ruled (ended (order_by a.msf) 2 (suc a.k) 8) (fresh a.k []) 8 in
     let o = rw (add-one a.k) at c.in_ok-at.ensures in
     sort_judged a.tagged (order_by a.msf) a.k f a.p _
-    (close_judged l r (suc a.k * 2) S f a.p o _ _ c.in_ok-sort_numbers.ensures refl (rw (add-one a.k) at c.tag_if.ensures))
+    (close_judged l r (suc a.k * 2) S f a.p o _ _ c.in_ok-sort_numbers.ensures refl (rw (add-one a.k) at c.tag_or.ensures))

@@ -44,4 +44,4 @@ returns c =
     let o = rw w at c.in_ok-at.ensures in
     types_judged a.tagged (order_by a.msf) a.k f a.p _
     (close_judged l r (a.k * code_width a.tagged) (times C a.k) f a.p o _ _ c.in_ok-type_codes.ensures
-    (sym (times_next C (code_width a.tagged) (code_size a.tagged (order_by a.msf)) a.k f c.in_ok-at.at)) (rw w at c.tag_if.ensures))
+    (sym (times_next C (code_width a.tagged) (code_size a.tagged (order_by a.msf)) a.k f c.in_ok-at.at)) (rw w at c.tag_or.ensures))
