@@ -152,7 +152,8 @@ def name_of(source, item):
     if not item.group().startswith(" "):
         return item.group(1)
     block = [found for found in IMPL.finditer(source) if found.start() < item.start()][-1]
-    return block.group(3) + (block.group(1) or "") + "".join(re.findall(r"\w+", block.group(2) or "")) + "/" + item.group(1)
+    kind = block.group(3)[0].upper() + block.group(3)[1:]
+    return kind + (block.group(1) or "") + "".join(re.findall(r"\w+", block.group(2) or "")) + "/" + item.group(1)
 
 
 def body_of(source, at):

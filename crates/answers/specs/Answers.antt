@@ -47,6 +47,6 @@ abbrev pub opened_if : Bool → Try (Edition × Order) → Result Opened Refusal
 opened_if b t = let r = ok_or (opened_by t) NotReadable in cond b r (Err NotThere)
 
 -- the bytes of a part of the file: none with a refusal, or where they are not in it
-abbrev pub part_in : List ℕ → Result Part Refusal → List ℕ
+abbrev pub part_in : {E : Type 0} → List ℕ → Result Part E → List ℕ
 part_in f (Ok p) = cond (leb (p.at + p.len) (length f)) (slice f p.at p.len) []
 part_in f (Err e) = []

@@ -6,7 +6,7 @@ ghost use Rattle.reading.specs.Reads.{edition_in};
 ghost use Rattle.answers.specs.Answers.{opened_if, part_by, part_in};
 
 use reading::Opened;
-use refusal::Refusal;
+use refusal::{Refusal, Told};
 
 // A part of the file by place and length.
 #[derive(Clone, Copy)]
@@ -35,8 +35,8 @@ pub fn text_field(f: &[u8], start: u64, gap: u64, index: u64, w: usize) -> Resul
     Ok(Part { at, len })
 }
 
-// The bytes of a part: none with a refusal, or where they are not in the file.
-pub fn part_of<'a>(f: &'a [u8], part: Result<Part, Refusal>) -> &'a [u8]
+// The bytes of a part: none with a refusal, told by any number, or where they are not in the file.
+pub fn part_of<'a, E: Told>(f: &'a [u8], part: Result<Part, E>) -> &'a [u8]
     ensures { result.now ≡ part_in f.now part }
 {
     let Part { at, len } = match part {

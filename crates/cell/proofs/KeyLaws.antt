@@ -1,5 +1,5 @@
--- What the two tests, the whole part and the comparison with it say of a float's exact value. Assumes nothing.
-use Rattle.std.proofs.Common.{◌≡◌, ℕ, zero, suc, ◌+◌, ◌*◌, ◌/◌, ◌%◌, ◌^◌, ◌<◌, ◌≤◌, Bool, true, false, cond, ◌||◌, T, eqb, ◌⊎◌, ℤ, pos, neg_ℤ, sym, refl, ap, ◌∙◌, inl, inr, le_trans, div-lt_iff_lt-mul, div-add-mod', le-div_iff_mul-le, zero-mul, mul-one, mul_right_comm, arith, lit≤, lt→ltb, ltb-false, ltb-true, lt-ltb, eq-eqb, ne_eqb, le-leb}
+-- What the two tests, the whole part and the comparison with it say of a float's exact value; and the code of a letter. Assumes nothing.
+use Rattle.std.proofs.Common.{◌≡◌, ℕ, zero, suc, ◌+◌, ◌*◌, ◌/◌, ◌%◌, ◌^◌, ◌<◌, ◌≤◌, Bool, true, false, cond, ◌||◌, T, eqb, ◌⊎◌, ℤ, pos, ◌+ℤ◌, neg_ℤ, sym, refl, ap, ◌∙◌, inl, inr, le_trans, div-lt_iff_lt-mul, div-add-mod', le-div_iff_mul-le, zero-mul, mul-one, mul_right_comm, arith, lit≤, lt→ltb, w32, SFits, to_z, of_z, ltb-false, ltb-true, lt-ltb, eq-eqb, ne_eqb, le-leb}
 use mathlib.Core.Bool.{beq, and-false, false≢true}
 use native.Mathlib.Nat.{eq_of_mul-eq-mul_right, min-eq_left}
 use borrow.Author.Tests.{lt-leb}
@@ -8,6 +8,7 @@ use lib.Signed.{mag}
 use lib.Ieee.Fits.{down_pos}
 use lib.Ieee.Exact.{HasValue}
 use lib.Ieee.Back.{round_whole}
+use mir.ValLaws.{to_z_pos, to_z-of_z}
 use Rattle.format.specs.Cells.{nothing, seeks, key_real, with_sign, long_max}
 
 -- -2^31
@@ -186,3 +187,16 @@ asks_high (fin false m e) q b l h =
     let w = (div-lt_iff_lt-mul {k = down e} {x = m * up e} {y = 2147483648} (down_pos e)).0 (omega (arith, short q false m e b l h)) in
     lt→ltb (m * up e * 1) (9223372036854775808 * down e) (omega arith)
 asks_high (fin true m e) q b l h = lt→ltb 0 (m * up e * 1 + 9223372036854775808 * down e) (omega (arith, down_pos e))
+
+-- ---- the code of a letter
+
+-- a whole number b and a letter fit a long
+pub letter_fits : (b k : ℕ) → b ≤ 2147483621 → k ≤ 26 → SFits w32 (pos b +ℤ to_z w32 k)
+letter_fits b k l h =
+    let g : k < 2 ^ 31 = omega arith in
+    rw (to_z_pos w32 k g) (record { sfits = omega arith })
+
+pub letter_is : (b k : ℕ) → b ≤ 2147483621 → k ≤ 26 → to_z w32 (of_z w32 (pos b +ℤ to_z w32 k)) ≡ pos (b + k)
+letter_is b k l h =
+    let g : k < 2 ^ 31 = omega arith in
+    to_z-of_z w32 _ (letter_fits b k l h) ∙ ap (λ (z : ℤ). pos b +ℤ z) (to_z_pos w32 k g)

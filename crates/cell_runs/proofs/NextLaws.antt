@@ -120,6 +120,29 @@ module _ (f : List ℕ) (l : Layout) (i : ℕ) (q : Opened) (Q : Some q ≡ open
   pub types_end : 0 < l.variables → s + l.variables * code_width e.tagged ≤ length f
   types_end z = types_inside e.tagged o f l.variables s stands.types z stands.got_types
 
+  -- the next column, by its type code
+  pub next_is : 1 ≤ i → i + 1 ≤ l.variables → (x : Field) → x ≡ field_at e.tagged o f s i → (b : ℕ) → b ≡ capped (c.offset + c.field.width)
+      → ◌≡◌ {A = Result Column Refusal} (Ok (record { field = x; offset = b; row = c.row })) (column_by (answer_of f l (ask_column (i + 1))))
+  next_is low high x X b B =
+      let S = stands in
+      let t = S.types in
+      let W = edition_widths l.release l.order q Q in
+      let w = cell_width e.v_width e.o_width in
+      let y = get_or t (i - 1) byte_type in
+      let n : i + 1 - 1 ≡ i = omega arith in
+      let k : i ≡ suc (i - 1) = omega arith in
+      let L = types_long e.tagged o f l.variables s t S.got_types in
+      let F : x ≡ field_by (get_or t i byte_type) = X ∙ types_at e.tagged o f l.variables s t S.got_types i (omega arith) in
+      let A : c.offset ≡ capped (offset_in e t i) = ap (λ (k : Column). k.offset) S.column in
+      let D : c.field.width ≡ w y = ap (λ (k : Column). k.field.width) S.column ∙ width_is e.v_width e.o_width (omega (arith, W.eight)) y in
+      let R : c.row ≡ capped (width_in e t) = ap (λ (k : Column). k.row) S.column in
+      let N : row_width w (take i t) ≡ offset_in e t i + w y = ap (λ (m : ℕ). row_width w (take m t)) k ∙ width_next w t (i - 1) (omega arith) in
+      let G : b ≡ capped (row_width w (take i t)) = B ∙ sum_as A D ∙ sym (capped_next (offset_in e t i) (w y)) ∙ ap capped (sym N) in
+      column_as F G R
+      ∙ sym
+      (by_types f l q Q (i + 1) (in_among (i + 1) l.variables (omega arith) high) (got t) S.got_types
+      ∙ ap (λ (m : ℕ). column_by (column (get_or t m byte_type) (row_width w (take m t)) (width_in e t))) n)
+
   module _ (n : length f ≤ 18446744073709551615) (p : ℕ) (P : p ≡ capped s) where
     -- in a file whose types are read their place is not capped
     pub at_start : 0 < l.variables → p ≡ s
@@ -134,25 +157,7 @@ module _ (f : List ℕ) (l : Layout) (i : ℕ) (q : Opened) (Q : Some q ≡ open
     field_is m h = ap (λ (x : ℕ). field_at e.tagged o f x m) (at_start (omega arith)) ∙ types_at e.tagged o f l.variables s stands.types stands.got_types m h
 
     pub column_next : 1 ≤ i → i + 1 ≤ l.variables → Ok (column_after (field_at e.tagged o f p i) c) ≡ column_by (answer_of f l (ask_column (i + 1)))
-    column_next low high =
-        let S = stands in
-        let t = S.types in
-        let W = edition_widths l.release l.order q Q in
-        let w = cell_width e.v_width e.o_width in
-        let y = get_or t (i - 1) byte_type in
-        let n : i + 1 - 1 ≡ i = omega arith in
-        let k : i ≡ suc (i - 1) = omega arith in
-        let L = types_long e.tagged o f l.variables s t S.got_types in
-        let F = field_is i (omega arith) in
-        let A : c.offset ≡ capped (offset_in e t i) = ap (λ (k : Column). k.offset) S.column in
-        let D : c.field.width ≡ w y = ap (λ (k : Column). k.field.width) S.column ∙ width_is e.v_width e.o_width (omega (arith, W.eight)) y in
-        let R : c.row ≡ capped (width_in e t) = ap (λ (k : Column). k.row) S.column in
-        let N : row_width w (take i t) ≡ offset_in e t i + w y = ap (λ (m : ℕ). row_width w (take m t)) k ∙ width_next w t (i - 1) (omega arith) in
-        let G : capped (c.offset + c.field.width) ≡ capped (row_width w (take i t)) = sum_as A D ∙ sym (capped_next (offset_in e t i) (w y)) ∙ ap capped (sym N) in
-        column_as F G R
-        ∙ sym
-        (by_types f l q Q (i + 1) (in_among (i + 1) l.variables (omega arith) high) (got t) S.got_types
-        ∙ ap (λ (m : ℕ). column_by (column (get_or t m byte_type) (row_width w (take m t)) (width_in e t))) n)
+    column_next low high = next_is low high _ (ap (λ (x : ℕ). field_at e.tagged o f x i) (at_start (omega arith))) _ refl
 
 -- ---- for the code
 

@@ -56,7 +56,7 @@ pub fn cell_in(
     match h {
         Ok(h) => {
             let gap = reading::tag_size(h.o.e.tagged, 6);
-            let row = cells::row_in(f, Ok(h.c.row), j, l.n, l.places[9], gap);
+            let row = cells::row_in::<Refusal>(f, Ok(h.c.row), j, l.n, l.places[9], gap);
             cells::cell_in_row(f, row, h.c, h.o.e.v_width, h.o.e.o_width, h.o.msf)
         }
         Err(e) => Err(*e),
@@ -158,7 +158,7 @@ pub fn cells_down(f: &[u8], l: Layout, i: u64, j: u64, out: &mut [u64]) -> Resul
     let start = place_of(l, 9);
     let gap = reading::tag_size(h.o.e.tagged, 6);
     for m in 0..n {
-        let row = cells::row_in(f, Ok(h.c.row), j + m as u64, l.n, start, gap);
+        let row = cells::row_in::<Refusal>(f, Ok(h.c.row), j + m as u64, l.n, start, gap);
         let x = cells::cell_in_row(f, row, h.c, h.o.e.v_width, h.o.e.o_width, h.o.msf);
         put_said(&mut out[m * 4..], x);
     }
@@ -181,7 +181,7 @@ pub fn cells_along(f: &[u8], l: Layout, i: u64, j: u64, out: &mut [u64]) -> Resu
     let types = types_of(l, o.e.tagged);
     let start = place_of(l, 9);
     let gap = reading::tag_size(o.e.tagged, 6);
-    let row = cells::row_in(f, Ok(h.c.row), j, l.n, start, gap);
+    let row = cells::row_in::<Refusal>(f, Ok(h.c.row), j, l.n, start, gap);
     let mut c = h.c;
     for m in 0..n {
         let v = i + m as u64;

@@ -26,23 +26,39 @@ use Rattle.cell.specs.Cells.{says, cell_by, Lettered, IsCell}
 use Rattle.cell.proofs.CellLaws.{lettered_at}
 use Rattle.editions.specs.Editions.{numbers_of}
 use Rattle.questions.specs.Readings.{Try, none, got, bind, test, text_needs}
-use Rattle.questions.specs.Ask.{Answer, refused, column, cell, or_refused, release_in, order_in, in_range, among, type_in, types_in, layout_types, cell_needs, cell_at, cell_in, cell_place, offset_in, width_in, start_of, answer_of, ask_column, ask_cell}
+use Rattle.questions.specs.Ask.{Answer, refused, count, mark, typed, part, column, labels, cell, plain, long, or_refused, release_in, order_in, in_range, among, type_in, types_in, layout_types, cell_needs, cell_at, cell_in, cell_place, offset_in, width_in, start_of, answer_of, ask_column, ask_cell}
 use Rattle.reading.specs.declared.Opened.{Opened}
 use Rattle.reading.specs.Reads.{length_in, edition_in}
 use Rattle.reading.proofs.ReadLaws.{room_got, room_none}
 use Rattle.reading.proofs.AnswerLaws.{answer_open}
 use Rattle.columns.specs.declared.Column.{Column}
 use Rattle.columns.specs.Columns.{capped, column_by}
-use Rattle.cells.specs.Cells.{said_by, is_text, cell_said}
+use Rattle.cells.specs.Cells.{said_told, said_by, is_text, cell_said}
 use Rattle.answers.specs.Answers.{opened_if}
 use Rattle.answers.proofs.TellLaws.{is_open, tells_open}
 use Rattle.std.specs.Prelude.{Result, Ok, Err, IfOk}
 use Rattle.refusal.specs.declared.Refusal.{Refusal}
-use Rattle.refusal.specs.Refusals.{refusal_by}
+use Rattle.refusal.specs.Refusals.{retold, refusal_by}
 use Rattle.refusal.specs.declared.Refusal.TheVariants.{NotReadable}
 use Rattle.columns.proofs.ColumnLaws.{capped_le, capped_is, among_in, consed, type_is}
 
 -- ---- answers
+
+pub said_retold : {E : Type 0} (t : Refusal → E) (a : Answer) → retold t (said_by a) ≡ said_told t a
+said_retold t (refused c) = refl
+said_retold t (count n) = refl
+said_retold t (mark b) = refl
+said_retold t (typed k) = refl
+said_retold t (part p n) = refl
+said_retold t (column k p n) = refl
+said_retold t (labels s) = refl
+said_retold t (cell s) = refl
+said_retold t (plain x) = refl
+said_retold t (long k p n) = refl
+
+-- told in another way
+pub said_other : {E : Type 0} (t : Refusal → E) (a : Answer) (r : E) → r ≡ t NotReadable → refused 17 ≡ a → Err r ≡ said_told t a
+said_other t a r e h = ap Err e ∙ ap (said_told t) h
 
 pub said_none : (a : Answer) (c : ℕ) (r : Result Cell Refusal) → r ≡ Err (refusal_by c) → refused c ≡ a → r ≡ said_by a
 said_none a c r e h = e ∙ ap said_by h

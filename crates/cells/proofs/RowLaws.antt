@@ -29,7 +29,7 @@ use Rattle.answers.specs.Answers.{opened_if}
 use Rattle.answers.proofs.TellLaws.{is_open, tells_refused}
 use Rattle.columns.specs.declared.Column.{Column}
 use Rattle.columns.specs.Columns.{capped, column_by}
-use Rattle.cells.specs.Cells.{said_by, cell_said, HasKind, row_by, row_at, row_in, RowRead, CellSaid, said_in, RowSaid}
+use Rattle.cells.specs.Cells.{said_by, cell_said, HasKind, row_by, row_at, row_numbered, row_in, RowRead, CellSaid, said_in, RowSaid}
 use Rattle.cells.proofs.CellLaws.{among_both, cell_unread, stands, cell_past, far, kind_known, width_is, capped_said}
 
 -- ---- a row
@@ -39,19 +39,29 @@ pub ok_row : {x : Result ℕ Refusal} {o : Option ℕ} (t : Try ℕ) → x ≡ o
 ok_row none h e = h ∙ ap (λ (y : Option ℕ). ok_or y NotReadable) e
 ok_row (got n) h e = h ∙ ap (λ (y : Option ℕ). ok_or y NotReadable) e
 
+-- a column's refusal may be told by any number
+module _ {E : Type 0} (m : E → ℕ) (f : List ℕ) (x : Result ℕ E) (j n p : ℕ) where
+  pub numbered_out : among j n ≡ false → Err NotThere ≡ row_numbered m f x j n p
+  unfolding row_numbered
+  numbered_out h = rw h
+
+  pub numbered_among : among j n ≡ true → row_numbered m f x j n p ≡ row_at m f x j p
+  unfolding row_numbered
+  numbered_among h = rw h
+
 module _ (f : List ℕ) (x : Result ℕ Refusal) (j n p : ℕ) where
   pub row_out : among j n ≡ false → Err NotThere ≡ row_in f x j n p
-  unfolding row_in
+  unfolding row_numbered
   row_out h = rw h
 
-  pub row_among : among j n ≡ true → row_in f x j n p ≡ row_at f x j p
-  unfolding row_in
+  pub row_among : among j n ≡ true → row_in f x j n p ≡ row_at number_of f x j p
+  unfolding row_numbered
   row_among h = rw h
 
 -- of a column that is refused with 16 or 17
 module _ (f : List ℕ) (d : Refusal) (h : refusal_by (number_of d) ≡ d) (j n p : ℕ) where
   pub row_refused : (x : Refusal) → Err x ≡ row_in f (Err d) j n p → (b : Bool) → among j n ≡ b → x ≡ cond b d NotThere
-  unfolding row_in
+  unfolding row_numbered
   row_refused x X true B = let k : Err x ≡ Err d = rw (B, h) at X in cc k
   row_refused x X false B = let k : Err x ≡ Err NotThere = rw B at X in cc k
 
@@ -61,7 +71,7 @@ module _ (f : List ℕ) (w j n p : ℕ) where
 
   -- of a row that is there
   pub row_past : among j n ≡ true → (d : Refusal) → Err d ≡ row_in f (Ok w) j n p → (d ≡ NotReadable) × (length f < p + (j - 1) * w)
-  unfolding row_in
+  unfolding row_numbered
   row_past h d D = go (leb (p + (j - 1) * w) (length f)) refl
     where
       go : (t : Bool) → leb (p + (j - 1) * w) (length f) ≡ t → (d ≡ NotReadable) × (length f < p + (j - 1) * w)
@@ -69,7 +79,7 @@ module _ (f : List ℕ) (w j n p : ℕ) where
       go false T = let k : Err d ≡ Err NotReadable = rw (h, T) at D in (cc k, leb-false (p + (j - 1) * w) (length f) T)
 
   pub row_here : (r : ℕ) → Ok r ≡ row_in f (Ok w) j n p → (r ≡ p + (j - 1) * w) × (p + (j - 1) * w ≤ length f)
-  unfolding row_in
+  unfolding row_numbered
   row_here r D = go (among j n) refl (leb (p + (j - 1) * w) (length f)) refl
     where
       go : (a : Bool) → among j n ≡ a → (t : Bool) → leb (p + (j - 1) * w) (length f) ≡ t → (r ≡ p + (j - 1) * w) × (p + (j - 1) * w ≤ length f)
@@ -228,7 +238,7 @@ module _ (f : List ℕ) (l : Layout) (i j : ℕ) (q : Opened) (Q : IfSome (opene
     where
       go : (y : Result Column Refusal) → c ≡ y → IfOk y (λ x. k ≡ x) → Ok k ≡ c
       go (Ok y) e h = ap Ok h ∙ sym e
-      go (Err d) e h = absurd (false≢true (cc (X ∙ R ∙ row_among f (width_by c) j l.rows place (there x X) ∙ ap (λ (z : Result Column Refusal). row_at f (width_by z) j place) e)))
+      go (Err d) e h = absurd (false≢true (cc (X ∙ R ∙ row_among f (width_by c) j l.rows place (there x X) ∙ ap (λ (z : Result Column Refusal). row_at number_of f (width_by z) j place) e)))
 
   row_told : (x : Result ℕ Refusal) → x ≡ r → Ok k ≡ c → x ≡ row_in f (Ok k.row) j l.rows place
   row_told x X h = X ∙ R ∙ ap (λ (z : Result Column Refusal). row_in f (width_by z) j l.rows place) (sym h)

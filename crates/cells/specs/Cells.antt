@@ -16,18 +16,22 @@ use Rattle.questions.specs.Readings.{Try, none, got, bind}
 use Rattle.questions.specs.Ask.{Answer, refused, count, mark, typed, part, column, labels, cell, plain, long, or_refused, among, cell_at}
 use Rattle.reading.specs.Reads.{place_in}
 
--- the content of a cell, of an answer
+-- the content of a cell, of an answer, or the refusal, told as t says
+abbrev pub said_told : {E : Type 0} → (Refusal → E) → Answer → Result Cell E
+said_told t (refused c) = Err (t (refusal_by c))
+said_told t (count n) = Err (t NotReadable)
+said_told t (mark b) = Err (t NotReadable)
+said_told t (typed k) = Err (t NotReadable)
+said_told t (part p n) = Err (t NotReadable)
+said_told t (column k p n) = Err (t NotReadable)
+said_told t (labels s) = Err (t NotReadable)
+said_told t (cell s) = Ok (cell_by s)
+said_told t (plain x) = Err (t NotReadable)
+said_told t (long k p n) = Err (t NotReadable)
+
+-- .. as it is
 abbrev pub said_by : Answer → Result Cell Refusal
-said_by (refused c) = Err (refusal_by c)
-said_by (count n) = Err NotReadable
-said_by (mark b) = Err NotReadable
-said_by (typed t) = Err NotReadable
-said_by (part p n) = Err NotReadable
-said_by (column t p n) = Err NotReadable
-said_by (labels s) = Err NotReadable
-said_by (cell s) = Ok (cell_by s)
-said_by (plain t) = Err NotReadable
-said_by (long k p n) = Err NotReadable
+said_by a = said_told (λ r. r) a
 
 -- the kind is a text
 abbrev pub is_text : Kind → Bool
@@ -66,25 +70,34 @@ abbrev pub row_by : Try ℕ → Result ℕ Refusal
 row_by none = Err NotReadable
 row_by (got p) = Ok p
 
--- row j from p on, where w is the width of a row or the refusal of its column, of which 16 and 17 are known
-abbrev pub row_at : List ℕ → Result ℕ Refusal → ℕ → ℕ → Result ℕ Refusal
-row_at f (Ok w) j p = row_by (place_in f (p + (j - 1) * w))
-row_at f (Err d) j p = Err (refusal_by (number_of d))
+-- row j from p on, where w is the width of a row or the refusal of its column, of which 16 and 17 are known; n is the number of such a refusal
+abbrev pub row_at : {E : Type 0} → (E → ℕ) → List ℕ → Result ℕ E → ℕ → ℕ → Result ℕ Refusal
+row_at n f (Ok w) j p = row_by (place_in f (p + (j - 1) * w))
+row_at n f (Err d) j p = Err (refusal_by (n d))
 
--- .. of n
-unfoldable pub row_in : List ℕ → Result ℕ Refusal → ℕ → ℕ → ℕ → Result ℕ Refusal
-row_in f w j n p = cond (among j n) (row_at f w j p) (Err NotThere)
+-- .. of k
+unfoldable pub row_numbered : {E : Type 0} → (E → ℕ) → List ℕ → Result ℕ E → ℕ → ℕ → ℕ → Result ℕ Refusal
+row_numbered n f w j k p = cond (among j k) (row_at n f w j p) (Err NotThere)
+
+abbrev pub row_in : List ℕ → Result ℕ Refusal → ℕ → ℕ → ℕ → Result ℕ Refusal
+row_in f w j k p = row_numbered number_of f w j k p
 
 -- the row's cells can be read: it starts in the file, and their kind is known
-pub record RowRead (f : List ℕ) (x : Result ℕ Refusal) (k : Kind) (w vw ow : ℕ) : Type 0 where
+pub record RowRead {E : Type 0} (f : List ℕ) (x : Result ℕ E) (k : Kind) (w vw ow : ℕ) : Type 0 where
   pub inside : IfOk x (λ p. p ≤ length f)
   pub kind : IfOk x (λ p. HasKind k w vw ow)
 
--- the cell of a type that stands n bytes into the row: the row's refusal, or what the cell says
+-- the cell of a type that stands n bytes into the row: the row's refusal, or what the cell says, whose refusal is told as t says
+abbrev pub cell_told : {E : Type 0} → (Refusal → E) → Edition → Order → List ℕ → Result ℕ E → VarType → ℕ → Result Cell E
+cell_told t e o f (Ok p) k n = said_told t (cell_said e o f k (p + n))
+cell_told t e o f (Err d) k n = Err d
+
 abbrev pub said_in : Edition → Order → List ℕ → Result ℕ Refusal → VarType → ℕ → Result Cell Refusal
-said_in e o f (Ok p) t n = said_by (cell_said e o f t (p + n))
-said_in e o f (Err d) t n = Err d
+said_in e o f x k n = cell_told (λ r. r) e o f x k n
 
 -- r is that, in any edition with these widths of v and o
+abbrev pub RowTold : {E : Type 0} → (Refusal → E) → ℕ → ℕ → Order → List ℕ → Result ℕ E → VarType → ℕ → Result Cell E → Type 0
+RowTold t vw ow o f x k n r = (e : Edition) → e.v_width ≡ vw → e.o_width ≡ ow → r ≡ cell_told t e o f x k n
+
 abbrev pub RowSaid : ℕ → ℕ → Order → List ℕ → Result ℕ Refusal → VarType → ℕ → Result Cell Refusal → Type 0
-RowSaid vw ow o f x t n r = (e : Edition) → e.v_width ≡ vw → e.o_width ≡ ow → r ≡ said_in e o f x t n
+RowSaid vw ow o f x k n r = RowTold (λ r. r) vw ow o f x k n r

@@ -2,18 +2,18 @@
 
 ghost use Rattle.std.specs.Prelude.{◌≡◌, ◌+◌};
 ghost use Rattle.format.specs.Number.{order_by};
-ghost use Rattle.refusal.specs.Refusals.{number_of, refusal_by};
+ghost use Rattle.refusal.specs.Refusals.{refusal_by};
 ghost use Rattle.questions.specs.Ask.{in_range, answer_of, ask_column, ask_cell};
 ghost use Rattle.checking.specs.Checks.{layout_by};
 ghost use Rattle.columns.specs.Columns.{column_by};
-ghost use Rattle.cells.specs.Cells.{said_by, is_text, TextSaid, HasKind, CellSaid, row_in, RowRead, RowSaid};
+ghost use Rattle.cells.specs.Cells.{said_by, is_text, TextSaid, HasKind, CellSaid, row_numbered, RowRead, RowTold};
 ghost use Rattle.codes.specs.Fields.{type_of};
 
 use cell::Cell;
 use checking::Layout;
 use codes::{Field, Kind};
 use columns::Column;
-use refusal::Refusal;
+use refusal::{Refusal, Told};
 
 // Whether the kind is a text.
 fn is_text(kind: Kind) -> bool
@@ -54,25 +54,25 @@ fn read_cell(
 }
 
 // The refusal of the rows, by that of their column: 16 stays, any other is 17.
-fn refusal_of_rows(e: Refusal) -> Refusal
-    ensures { result ≡ refusal_by (number_of e) }
+fn refusal_of_rows<E: Told>(e: E) -> Refusal
+    ensures { result ≡ refusal_by (E.own e) }
 {
-    match e {
-        Refusal::NotThere => Refusal::NotThere,
-        _ => Refusal::NotReadable,
+    if e.own() == 16 {
+        return Refusal::NotThere;
     }
+    Refusal::NotReadable
 }
 
-// Where row `j` of `n` stands, from `start + gap` on, where `width` is that of a row, or the refusal of the column.
-pub fn row_in(
+// Where row `j` of `n` stands, from `start + gap` on, where `width` is that of a row, or the refusal of the column, told by any number.
+pub fn row_in<E: Told>(
     f: &[u8],
-    width: Result<u64, Refusal>,
+    width: Result<u64, E>,
     j: u64,
     n: u64,
     start: u64,
     gap: u64,
 ) -> Result<u64, Refusal>
-    ensures { result ≡ row_in f.now width j n (start + gap) }
+    ensures { result ≡ row_numbered E.own f.now width j n (start + gap) }
 {
     if !reading::is_among(j, n) {
         return Err(Refusal::NotThere);
@@ -83,23 +83,23 @@ pub fn row_in(
     }
 }
 
-// The cell of the column `c` in a row, in an edition with these widths of v and o; a refusal of the row stays.
-pub fn cell_in_row(
+// The cell of the column `c` in a row, in an edition with these widths of v and o; a refusal of the row stays, told by any number.
+pub fn cell_in_row<E: Told>(
     f: &[u8],
-    row: Result<u64, Refusal>,
+    row: Result<u64, E>,
     c: Column,
     vw: usize,
     ow: usize,
     msf: bool,
-) -> Result<Cell, Refusal>
+) -> Result<Cell, E>
     requires { RowRead f.now row c.field.kind c.field.width vw ow }
-    ensures { RowSaid vw ow (order_by msf) f.now row (type_of c.field.kind c.field.width) c.offset result }
+    ensures { RowTold E.told vw ow (order_by msf) f.now row (type_of c.field.kind c.field.width) c.offset result }
 {
     let p = row?;
     if (f.len() as u64 - p) < c.offset {
-        return Err(Refusal::NotReadable);
+        return Err(E::tell(Refusal::NotReadable));
     }
-    read_cell(f, p + c.offset, c.field, vw, ow, msf)
+    refusal::retell(read_cell(f, p + c.offset, c.field, vw, ow, msf))
 }
 
 // Whether there is a cell `i`, `j`.
@@ -123,7 +123,7 @@ pub fn cell_in_column(
     let o = answers::opened(is_cell(l, i, j), l.edition, l.order)?;
     let c = c?;
     let gap = reading::tag_size(o.e.tagged, 6);
-    let row = row_in(f, Ok(c.row), j, l.n, l.places[9], gap);
+    let row = row_in::<Refusal>(f, Ok(c.row), j, l.n, l.places[9], gap);
     cell_in_row(f, row, c, o.e.v_width, o.e.o_width, o.msf)
 }
 

@@ -81,7 +81,7 @@ fn type_line<W: Write>(out: &mut W, r: Result<Field, Refusal>) -> io::Result<()>
 fn say_part<W: Write>(out: &mut W, f: &[u8], part: Part) -> io::Result<()> {
     say_number(out, part.at)?;
     say_number(out, part.len)?;
-    printing::say(out, answers::part_of(f, Ok(part)))
+    printing::say(out, answers::part_of::<Refusal>(f, Ok(part)))
 }
 
 // The line of a part of the file.

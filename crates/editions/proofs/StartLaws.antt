@@ -1,20 +1,22 @@
 -- How a file begins, and what follows from its edition.
 use mathlib.Core.Path.{◌≡◌, refl, sym, ap, ◌∙◌}
-use Prim.Native.Nat.{ℕ, ◌≤◌}
+use Prim.Native.Nat.{ℕ, ◌≤◌, ◌<◌}
 use native.Mathlib.Omega.{arith}
-use mathlib.Core.List.{List}
-use mathlib.Core.Bool.{Bool, true, false, cond}
-use lib.ListN.{length}
+use mathlib.Core.List.{List, [], ◌∷◌}
+use mathlib.Core.Bool.{Bool, true, false, cond, and-false}
+use lib.ListN.{length, get_or, get_or-eq_default}
 use lib.Dec.{eqb}
-use borrow.Author.Tests.{eqb-true, ne_eqb}
+use borrow.Author.Tests.{eqb-true, eq-eqb, ne_eqb}
 use Rattle.std.specs.Prelude.{Result, Ok, Err, Some, None}
 use Rattle.std.specs.Result.{is_ok}
 use Rattle.refusal.specs.declared.Refusal.{Refusal}
 use Rattle.refusal.specs.Refusals.{number_of, code_of}
 use Rattle.format.specs.Grammar.{no_zero, same_at, tag}
-use Rattle.format.specs.Edition.{edition, start}
-use Rattle.format.specs.Dta.{begins, known, release_of, edition_of}
+use Rattle.format.specs.Edition as Format
+use Rattle.format.specs.Edition.{r117, r118, edition, start}
+use Rattle.format.specs.Dta.{begins, known, release_of, edition_of, is_msf}
 use Rattle.format.proofs.EditionLaws.{each, found}
+use Rattle.format.proofs.FileLaws.{begun}
 use Rattle.section.proofs.StepLaws.{tag_room, some_number}
 use Rattle.section.proofs.TagLaws.{tag_same}
 use Rattle.editions.specs.declared.Release.{Release}
@@ -33,6 +35,35 @@ pub record Known (f : List ℕ) (r : Release) : Type 0 where
   pub room : length (start (edition_of f)) ≤ length f
 
 module _ (f : List ℕ) where
+  -- a file that begins as an edition has its number
+  pub begins_is : (r : Format.Release) → begins r f ≡ true → (edition r).number ≡ cond (known f) (edition_of f).number 0
+  begins_is r h =
+      let b = begun r f h in
+      sym (ap (λ (x : Bool). cond x (edition_of f).number 0) b.0 ∙ ap (λ (x : Format.Release). (edition x).number) b.1)
+
+  -- by its first byte
+  pub same : (b : ℕ) → get_or f 0 0 ≡ b → same_at (b ∷ []) f 0 ≡ true
+  same b e = rw (eq-eqb (get_or f 0 0) b e)
+
+  other : (b : ℕ) (l : List ℕ) → (get_or f 0 0 ≡ b → ⊥) → same_at (b ∷ l) f 0 ≡ false
+  other b l n = rw (ne_eqb (get_or f 0 0) b n)
+
+  -- else by the tags of a tagged edition
+  pub begins_tagged : (n : ℕ) → n ≡ cond (begins r117 f) 117 (cond (begins r118 f) 118 0) → (get_or f 0 0 ≡ 113 → ⊥) → (get_or f 0 0 ≡ 114 → ⊥) → (get_or f 0 0 ≡ 115 → ⊥)
+      → n ≡ cond (known f) (edition_of f).number 0
+  begins_tagged n e x y z = e ∙ go (begins r117 f) refl (begins r118 f) refl
+    where
+      go : (a : Bool) → begins r117 f ≡ a → (b : Bool) → begins r118 f ≡ b → cond a 117 (cond b 118 0) ≡ cond (known f) (edition_of f).number 0
+      go true h b i = begins_is r117 h
+      go false h true i = begins_is r118 i
+      go false h false i = rw (other 113 [] x, other 114 [] y, other 115 [] z, h, i)
+
+  -- an empty file is of none
+  pub empty_none : length f ≡ 0 → 0 ≡ cond (known f) (edition_of f).number 0
+  empty_none e =
+      let z : get_or f 0 0 ≡ 0 = get_or-eq_default f 0 (omega arith) in
+      begins_tagged 0 (sym (rw z)) (λ h. omega arith) (λ h. omega arith) (λ h. omega arith)
+
   -- bytes that are not zero are in the file
   start_room : (l : List ℕ) → no_zero l ≡ true → same_at l f 0 ≡ true → length l ≤ length f
   start_room l z s =
@@ -62,3 +93,17 @@ module _ (f : List ℕ) where
       go : (b : Bool) → known f ≡ b → known f ≡ false
       go true h = let g = rw h at e in cc
       go false h = h
+
+-- ---- the byte order
+
+-- a file that is too short has none
+module _ (f : List ℕ) where
+  pub tagged_short : length f < 55 → false ≡ is_msf true f
+  tagged_short h =
+      let z : get_or f 54 0 ≡ 0 = get_or-eq_default f 0 (omega arith) in
+      sym (rw z (rw (and-false (eqb (get_or f 53 0) 83)) (and-false (eqb (get_or f 52 0) 77))))
+
+  pub mark_short : length f < 2 → false ≡ is_msf false f
+  mark_short h =
+      let z : get_or f 1 0 ≡ 0 = get_or-eq_default f 0 (omega arith) in
+      rw z

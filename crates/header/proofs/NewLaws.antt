@@ -10,15 +10,17 @@ use borrow.Author.Tests.{eqb-true, eqb-false, le-leb, lt-leb}
 use Rattle.std.specs.Prelude.{Result, Ok, Err}
 use Rattle.std.proofs.lemmas.Result.{IfOk-weaker}
 use Rattle.refusal.specs.declared.Refusal.{Refusal}
-use Rattle.format.specs.Number.{Order}
-use Rattle.format.specs.Grammar.{Sect, next, number, within, ruled, seq, tag, between, same_at}
+use Rattle.format.specs.Number.{Order, num}
+use Rattle.format.specs.Grammar.{Sect, also, unless, need, next, number, within, ruled, seq, tag, between, same_at}
 use Rattle.format.specs.Edition.{opening, closing, start_by, tagged_start, order_text, n_byteorder, n_k, n_n}
 use Rattle.format.specs.Header as Format
 use Rattle.format.specs.Header.{n_rule, new_facts, new_header}
+use Rattle.format.proofs.Good.{also_right, also_left, unless_true}
 use Rattle.format.proofs.StepLaws.{between_judge, between_read, between_next}
 use Rattle.section.specs.Judged.{Judged}
 use Rattle.section.proofs.StepLaws.{need_there}
 use Rattle.section.proofs.SeqLaws.{seq_refused, seq_on}
+use Rattle.header.specs.declared.Rule.{Rule}
 use Rattle.header.specs.declared.Rule.TheVariants.{Most}
 use Rattle.header.specs.Rules.{holds, rows_max, held, new_texts}
 use Rattle.header.specs.Numbers.{Valued}
@@ -75,6 +77,20 @@ rule_by l r f p w S t u h {s} j =
       ends = IfOk-weaker s _ _ (λ q z. z ∙ between_next l r (within w (ruled S t 5)) f p ∙ sym (between_next l r (within w (ruled S u 5)) f p)) j.ends;
       inside = j.inside;
     }
+
+-- one that is right: it is in the file, and keeps to its rule
+module _ (l r : List ℕ) (f : List ℕ) (p : ℕ) (o : Order) (w : ℕ) (t : Rule) {b n : ℕ} (v : Valued (between l r (held o w t)) f p (Ok (b, n))) where
+  pub part_room : p + length l + w ≤ length f
+  part_room = omega (arith, v.inside, v.ends, between_next l r (held o w t) f p)
+
+  pub part_rule : holds t (num o w f (p + length l)) ≡ true
+  part_rule =
+      let q = p + length l in
+      let u = unless (holds t (num o w f q)) 5 in
+      let x = (tag r 4).judge f (next (held o w t) f q) in
+      let all : also ((tag l 4).judge f p) (also (also (need w f q) u) x) ≡ 0 = sym (between_judge l r (held o w t) f p) ∙ sym v.code in
+      unless_true (holds t (num o w f q)) 5 (omega arith)
+      (also_right (need w f q) u (also_left (also (need w f q) u) x (also_right ((tag l 4).judge f p) (also (also (need w f q) u) x) all)))
 
 -- ---- the header
 
@@ -146,6 +162,9 @@ module _ (e : Edition) (o : Order) (f : List ℕ) (begun : Begun f e) (tagged : 
     k_refused {x} v = head_refused (past_order (seq_refused (k_part o) (from_n e o) f a x (refused_value v)))
 
     module _ {b k : ℕ} (count : Valued (k_part o) f a (Ok (b, k))) where
+      pub k_room : a + 3 + 2 ≤ length f
+      k_room = part_room (opening true n_k) (closing true n_k) f a o 2 (Most 32767) count
+
       -- the greatest N in place of its rule
       ruled_rows : {s : Result ℕ Refusal} → Judged (n_part o e.n_width (holds (Most (rows_max k)))) f b s → Judged (n_part o e.n_width (n_rule ((k_part o).read f a))) f b s
       ruled_rows {s} j =
@@ -160,6 +179,9 @@ module _ (e : Edition) (o : Order) (f : List ℕ) (begun : Begun f e) (tagged : 
           head_refused (past_k (seq_refused (n_part o e.n_width (n_rule ((k_part o).read f a))) (λ n. texts e o) f b x (ruled_rows (refused_value v))))
 
       module _ {c n : ℕ} (rows : Valued (n_part o e.n_width (holds (Most (rows_max k)))) f b (Ok (c, n))) where
+        pub n_room : b + 3 + e.n_width ≤ length f
+        n_room = part_room (opening true n_n) (closing true n_n) f b o e.n_width (Most (rows_max k)) rows
+
         past_n : {s : Result ℕ Refusal} → Judged (texts e o) f c s → Judged (head e o) f 0 s
         past_n {s} j = past_k (seq_on (n_part o e.n_width (n_rule ((k_part o).read f a))) (λ n. texts e o) f b c (ruled_rows (judged_value rows)) s j)
 

@@ -6,7 +6,7 @@ use mathlib.Core.List.{List}
 use mathlib.Core.Bool.{Bool, true, false}
 use lib.ListN.{length, get_or}
 use lib.Dec.{eqb}
-use borrow.Author.Tests.{eqb-true, eq-eqb, ne_eqb, le-leb, lt-leb}
+use borrow.Author.Tests.{eqb-true, eq-eqb, ne_eqb, le-leb, lt-leb, le-ltb, lt-ltb}
 use Rattle.std.specs.Prelude.{Ok, Err}
 use Rattle.refusal.specs.declared.Refusal.{Refusal}
 use Rattle.refusal.specs.declared.Refusal.TheVariants.{CutShort, WrongHeader}
@@ -56,6 +56,25 @@ size e = 6 + (e.n_width + (e.label_max + 1 + 18))
 -- label and stamp
 abbrev texts : Edition → Sect (List ℕ × List ℕ)
 texts e = seq (text (e.label_max + 1) 5) λ l. old_stamp
+
+-- a label without its zero, and with it
+module _ (f : List ℕ) (q w n : ℕ) (e : n ≡ length (text_at w f q)) (b : n ≤ w) where
+  pub label_full : n ≡ w → 5 ≡ (seq (text w 5) (λ l. old_stamp)).judge f q
+  label_full h = rw (le-ltb (length (text_at w f q)) w (omega arith))
+
+  pub label_ended : (n ≡ w → ⊥) → old_stamp.judge f (q + w) ≡ (seq (text w 5) (λ l. old_stamp)).judge f q
+  label_ended h = rw (lt-ltb (length (text_at w f q)) w (omega arith))
+
+-- the marks
+module _ (f : List ℕ) (o : Order) where
+  pub marks_right : get_or f 1 0 ≡ order_mark o → get_or f 2 0 ≡ 1 → 0 ≡ (marks o).judge f 1
+  marks_right a b = rw (eq-eqb (get_or f 1 0) (order_mark o) a, eq-eqb (get_or f 2 0) 1 b)
+
+  pub type_wrong : get_or f 1 0 ≡ order_mark o → (get_or f 2 0 ≡ 1 → ⊥) → 5 ≡ (marks o).judge f 1
+  type_wrong a b = rw (eq-eqb (get_or f 1 0) (order_mark o) a, ne_eqb (get_or f 2 0) 1 b)
+
+  pub order_wrong : (get_or f 1 0 ≡ order_mark o → ⊥) → 5 ≡ (marks o).judge f 1
+  order_wrong a = rw (ne_eqb (get_or f 1 0) (order_mark o) a)
 
 k_says : (e : Edition) (o : Order) (f : List ℕ) → ((head e o).read f 0).0 ≡ num o 2 f 4
 unfolding old_header

@@ -38,10 +38,10 @@ use Rattle.refusal.specs.Refusals.{number_of}
 use Rattle.std.specs.Prelude.{Option, None, Some, Result, Ok, Err}
 use Rattle.std.proofs.lemmas.Option.{none-some, same_Some}
 use Rattle.walks.specs.Answers.{words_by, set_by}
-use Rattle.walks.specs.Walks.{table_words, ended_by, all_ended, placed_in, block_labels}
+use Rattle.walks.specs.Walks.{table_words, ended_told, all_told, placed_told, block_labels}
 use Rattle.walks.proofs.EndedLaws.{set_ended}
 use Rattle.walks.proofs.TextLaws.{TextGot, text_none, text_got}
-use Rattle.label_words.specs.Words.{set_said, said_in, sought_words, cell_words}
+use Rattle.label_words.specs.Words.{set_said, said_told, said_in, sought_words, cell_words}
 
 -- a text's bytes, as many as it has
 pub text_slice : (w : ℕ) (f : List ℕ) (p : ℕ) → p + length (text_at w f p) ≤ length f → take (length (text_at w f p)) (drop p f) ≡ text_at w f p
@@ -152,14 +152,14 @@ pub cell_sought : (g : ℤ → Result (Option Part) Refusal) (c : Cell) (k : Key
 cell_sought g c k h = ap (sought_words g) h
 
 -- they are what stands at their place, up to its end
-module _ (o : Order) (f : List ℕ) where
-  sought_ended : (s : Result (Option LabelSet) Refusal) (k : Key) → sought_words (said_in o f s) k ≡ all_ended f (sought_words (placed_in o f s) k)
-  unfolding ended_by
+module _ {E : Type 0} (t : Refusal → E) (o : Order) (f : List ℕ) where
+  sought_ended : (s : Result (Option LabelSet) E) (k : Key) → sought_words (said_told t o f s) k ≡ all_told t f (sought_words (placed_told t o f s) k)
+  unfolding ended_told
   sought_ended s nothing = refl
-  sought_ended (Ok s) (seeks q) = set_ended o f s q
+  sought_ended (Ok s) (seeks q) = set_ended t o f s q
   sought_ended (Err e) (seeks q) = refl
 
-  pub cell_ended : (s : Result (Option LabelSet) Refusal) (c : Result Cell Refusal) → all_ended f (cell_words (placed_in o f s) c) ≡ cell_words (said_in o f s) c
+  pub cell_ended : (s : Result (Option LabelSet) E) (c : Result Cell E) → all_told t f (cell_words (placed_told t o f s) c) ≡ cell_words (said_told t o f s) c
   cell_ended s (Ok c) = sym (sought_ended s (key_of (says c)))
   cell_ended s (Err e) = refl
 

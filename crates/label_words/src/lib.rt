@@ -5,16 +5,16 @@ ghost use Rattle.format.specs.Number.{order_by};
 ghost use Rattle.questions.specs.Ask.{answer_of, ask_table, ask_words, shown};
 ghost use Rattle.checking.specs.Checks.{layout_by};
 ghost use Rattle.cell.specs.Cells.{says, Lettered};
-ghost use Rattle.label_words.specs.Words.{set_said, said_in, cell_words};
+ghost use Rattle.label_words.specs.Words.{set_said, said_told, cell_words};
 ghost use Rattle.walks.specs.Answers.{words_by, set_by};
-ghost use Rattle.walks.specs.Walks.{placed_in};
+ghost use Rattle.walks.specs.Walks.{placed_told};
 ghost use Rattle.editions.specs.Editions.{numbers_of};
 
 use answers::Part;
 use cell::Cell;
 use checking::Layout;
 use editions::Edition;
-use refusal::Refusal;
+use refusal::{Refusal, Told};
 use walks::LabelSet;
 
 // The label set of variable `i`; none where the variable has no labels.
@@ -49,14 +49,14 @@ pub fn set_of(f: &[u8], l: Layout, i: u64) -> Result<Option<LabelSet>, Refusal>
 
 // Where the label words of a cell that says `c`, of a variable with the label set `s`, stand, and how many text bytes are left from there on; none
 // where the plain text is shown. A refused cell has its refusal.
-pub fn cell_place(
+pub fn cell_place<E: Told>(
     f: &[u8],
-    s: Result<Option<LabelSet>, Refusal>,
-    c: Result<Cell, Refusal>,
+    s: Result<Option<LabelSet>, E>,
+    c: Result<Cell, E>,
     msf: bool,
-) -> Result<Option<Part>, Refusal>
+) -> Result<Option<Part>, E>
     requires { IfOk c (λ x. Lettered (says x)) }
-    ensures { result ≡ cell_words (placed_in (order_by msf) f.now s) c }
+    ensures { result ≡ cell_words (placed_told E.told (order_by msf) f.now s) c }
 {
     match cell::key_of(c?) {
         Some(q) => walks::place_in_set(f, s, q, msf),
@@ -65,14 +65,14 @@ pub fn cell_place(
 }
 
 // The label words of a cell that says `c`, of a variable with the label set `s`, in a byte order; none where the plain text is shown.
-pub fn cell_words(
+pub fn cell_words<E: Told>(
     f: &[u8],
-    s: Result<Option<LabelSet>, Refusal>,
-    c: Result<Cell, Refusal>,
+    s: Result<Option<LabelSet>, E>,
+    c: Result<Cell, E>,
     msf: bool,
-) -> Result<Option<Part>, Refusal>
+) -> Result<Option<Part>, E>
     requires { IfOk c (λ x. Lettered (says x)) }
-    ensures { result ≡ cell_words (said_in (order_by msf) f.now s) c }
+    ensures { result ≡ cell_words (said_told E.told (order_by msf) f.now s) c }
 {
     walks::ended(f, cell_place(f, s, c, msf))
 }

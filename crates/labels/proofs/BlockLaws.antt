@@ -32,6 +32,10 @@ module _ (o : Order) (w : ℕ) (f : List ℕ) (p : ℕ) where
   pub head_short : length f < p + (4 + (w + 3)) → Judged (block_head o w) f p (Err CutShort)
   head_short h = refused (block_head o w) f p CutShort (short h)
 
+  pub head_size : next (block_head o w) f p ≡ p + (4 + (w + 3))
+  unfolding block_head name
+  head_size = refl
+
   module _ (h : p + (4 + (w + 3)) ≤ length f) (n : ℕ) (e : n ≡ length (text_at w f (p + 4))) (b : n ≤ w) where
     head_judge : (block_head o w).judge f p ≡ also ((name w).judge f (p + 4)) 0
     unfolding block_head
@@ -46,16 +50,11 @@ module _ (o : Order) (w : ℕ) (f : List ℕ) (p : ℕ) where
     pub head_empty : (n ≡ w → ⊥) → n ≡ 0 → Judged (block_head o w) f p (Err WrongText)
     head_empty u q = refused (block_head o w) f p WrongText (sym (head_judge ∙ rw (named, ne_eqb n w u, eq-eqb n 0 q)))
 
-    ends : p + (4 + (w + 3)) ≡ next (block_head o w) f p
-    unfolding block_head name
-    ends = refl
-
     pub head_passed : (n ≡ w → ⊥) → (n ≡ 0 → ⊥) → Judged (block_head o w) f p (Ok (p + (4 + (w + 3))))
-    head_passed u q = record { code = sym (head_judge ∙ rw (named, ne_eqb n w u, ne_eqb n 0 q)); ends = ends; inside = h }
+    head_passed u q = record { code = sym (head_judge ∙ rw (named, ne_eqb n w u, ne_eqb n 0 q)); ends = sym head_size; inside = h }
 
   pub head_room : {q : ℕ} → Judged (block_head o w) f p (Ok q) → p + (4 + (w + 3)) ≤ length f
-  unfolding block_head name
-  head_room J = omega (arith, J.inside, J.ends)
+  head_room J = omega (arith, J.inside, J.ends, head_size)
 
   pub head_says : ((block_head o w).read f p).0 ≡ num o 4 f p
   unfolding block_head

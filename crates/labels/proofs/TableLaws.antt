@@ -1,13 +1,13 @@
 -- Laws of label tables: the loops over their numbers and their text, and the answer of each step.
 use mathlib.Core.Path.{◌≡◌, refl, sym, ap, ◌∙◌}
 use Prim.Native.Nat.{ℕ, zero, suc, ◌+◌, ◌-◌, ◌*◌, ◌≤◌, ◌<◌}
-use native.Mathlib.Nat.{add-zero}
+use native.Mathlib.Nat.{add-zero, not-suc-le-zero}
 use native.Mathlib.Omega.{arith}
-use mathlib.Core.Bool.{Bool, true, false, ◌&&◌}
+use mathlib.Core.Bool.{Bool, true, false, ◌&&◌, and-true, and-false}
 use mathlib.Core.List.{List, ◌∷◌}
 use lib.ListN.{length, get_or}
 use lib.Dec.{eqb, leb}
-use borrow.Author.Tests.{ne_eqb, lt-ltb, le-ltb, le-leb, lt-leb, eqb-true}
+use borrow.Author.Tests.{eq-eqb, ne_eqb, lt-ltb, le-ltb, le-leb, lt-leb, eqb-true}
 use Rattle.format.specs.Number.{Order, num}
 use Rattle.format.specs.Grammar.{also, unless, next, number, read_times, judge_times, sizes, all_below, past_zero}
 use Rattle.format.specs.Labels.{signed, ascending, table_sizes, table_head, table_body, table}
@@ -22,6 +22,10 @@ use Rattle.section.specs.Judged.{Judged}
 use Rattle.section.proofs.StepLaws.{refused}
 
 -- ---- the last zero, from the end
+
+pub past_here : (a : ℕ → ℕ) (r : ℕ) → 0 < r → a (r - 1) ≡ 0 → r ≡ past_zero a r
+past_here a zero h z = absurd (not-suc-le-zero h)
+past_here a (suc r) h z = let e : suc r - 1 ≡ r = omega arith in rw (eq-eqb (a r) 0 (rw e at z))
 
 pub past_less : (a : ℕ → ℕ) (r s : ℕ) → s ≡ suc r → (a r ≡ 0 → ⊥) → past_zero a r ≡ past_zero a s
 past_less a r s e z = rw (e, ne_eqb (a r) 0 z)
@@ -57,6 +61,21 @@ module _ (o : Order) (f : List ℕ) (p n : ℕ) where
       pub ascend_stop : signed (num o 4 f (p + i * 4)) ≤ signed (num o 4 f (p + (i - 1) * 4)) → false ≡ ascending (rest (i - 1))
       ascend_stop h = rw (two, le-ltb (signed (num o 4 f (p + (i - 1) * 4))) (signed (num o 4 f (p + i * 4))) h)
 
+-- a number that is not below z; and at most one number left
+module _ (o : Order) (f : List ℕ) (n i q : ℕ) where
+  pub below_stop : i < n → (z : ℕ) → z ≤ num o 4 f q → false ≡ all_below z (read_times (number o 4) (n - i) f q)
+  below_stop b z h =
+      let k : n - i ≡ suc (n - (i + 1)) = omega arith in
+      rw (k, le-ltb (num o 4 f q) z h)
+
+  pub ascend_end : n ≤ i + 1 → true ≡ ascending (read_times (number o 4) (n - i) f q)
+  ascend_end h = go (n - i) refl
+    where
+      go : (k : ℕ) → n - i ≡ k → true ≡ ascending (read_times (number o 4) (n - i) f q)
+      go zero e = rw e
+      go (suc zero) e = rw e
+      go (suc (suc k)) e = absurd (omega arith)
+
 times_none : (o : Order) (n : ℕ) (f : List ℕ) (p : ℕ) → judge_times (number o 4) n f p ≡ 0
 times_none o zero f p = refl
 times_none o (suc n) f p = times_none o n f (p + 4)
@@ -83,6 +102,16 @@ module _ (o : Order) (n m : ℕ) (f : List ℕ) (q : ℕ) (h : q + (n * 4 + (n *
   body_ordered e z d t b = sym (body_judge ∙ rw (e, sym d, b))
 
 -- ---- the sizes
+
+module _ (w n m : ℕ) where
+  pub sizes_many : 65536 < n → false ≡ table_sizes w (n, m)
+  sizes_many h = simp (lt-leb n 65536 h, and-false)
+
+  pub sizes_long : 5308416 < m → false ≡ table_sizes w (n, m)
+  sizes_long h = simp (lt-leb m 5308416 h, and-false)
+
+  pub sizes_rest : n ≤ 65536 → m ≤ 5308416 → eqb w (8 + (8 * n + m)) ≡ table_sizes w (n, m)
+  sizes_rest h k = simp (le-leb n 65536 h, le-leb m 5308416 k, and-true)
 
 pub sizes_say : (w n m : ℕ) → table_sizes w (n, m) ≡ true → w ≡ 8 + (8 * n + m)
 sizes_say w n m h = eqb-true w (8 + (8 * n + m)) (and_left (eqb w (8 + (8 * n + m))) (leb n 65536 && leb m 5308416) h)

@@ -1,12 +1,12 @@
 -- Laws of the map.
 use mathlib.Core.Path.{◌≡◌, refl, sym, ap, ◌∙◌}
 use Prim.Native.Nat.{ℕ, zero, suc, ◌+◌, ◌-◌, ◌*◌, ◌≤◌, ◌<◌}
-use native.Mathlib.Nat.{add-zero}
+use native.Mathlib.Nat.{sub-zero}
 use native.Mathlib.Numerals.{add-one}
 use native.Mathlib.Omega.{arith}
 use mathlib.Core.List.{List, [], ◌∷◌}
 use mathlib.Core.Bool.{Bool, true, false, cond}
-use lib.ListN.{length, get_or, drop}
+use lib.ListN.{length, get_or, drop, drop_of_length-le}
 use lib.Seq.{drop-cons}
 use borrow.Author.Tests.{eq-eqb, ne_eqb}
 use Rattle.format.specs.Number.{Order, num}
@@ -51,17 +51,21 @@ module _ (t : Bool) (f : List ℕ) (p : ℕ) where
         (close_judged l r (map_count t * 8) (positions o) f p h (a + map_count t * 8) s (numbers_judge o (map_count t) f a)
         (sym (times_next (number o 8) 8 (λ x. refl) (map_count t) f a)) k)
 
--- ---- the positions at p, and the places, from the i-th on
+-- ---- the positions from q on and the places from i on, n of each
 
-module _ (o : Order) (f d : List ℕ) (p : ℕ) where
-  abbrev pub same_from : ℕ → Bool
-  same_from i = same_list (read_times (number o 8) (length d - i) f (p + i * 8)) (drop i d)
+module _ (o : Order) (f d : List ℕ) where
+  abbrev pub same_from : ℕ → ℕ → Bool
+  same_from i q = same_list (read_times (number o 8) (length d - i) f q) (drop i d)
 
-  pub same_all : length d ≡ 14 → same_from 0 ≡ same_list (positions_at o f p) d
+  pub same_all : (q : ℕ) → length d ≡ 14 → same_from 0 q ≡ same_list (positions_at o f q) d
   unfolding positions_at
-  same_all h = rw (h, add-zero)
+  same_all q h = ap (λ (n : ℕ). same_list (read_times (number o 8) n f q) d) (sub-zero (length d) ∙ h)
 
-  module _ (i : ℕ) (b : i < length d) where
+  -- no more
+  pub same_none : (i q : ℕ) → length d ≤ i → true ≡ same_from i q
+  same_none i q h = let e : length d - i ≡ 0 = omega arith in rw (e, drop_of_length-le d h)
+
+  module _ (i q : ℕ) (b : i < length d) where
     left : length d - i ≡ suc (length d - (i + 1))
     left = omega arith
 
@@ -69,13 +73,11 @@ module _ (o : Order) (f d : List ℕ) (p : ℕ) where
     rest = drop-cons d i 0 b ∙ ap (λ (k : ℕ). get_or d i 0 ∷ drop k d) (sym (add-one i))
 
     -- they differ; or they are the same, and the rest decides
-    pub same_stop : (num o 8 f (p + i * 8) ≡ get_or d i 0 → ⊥) → false ≡ same_from i
-    same_stop n = rw (left, rest, ne_eqb (num o 8 f (p + i * 8)) (get_or d i 0) n)
+    pub same_stop : (num o 8 f q ≡ get_or d i 0 → ⊥) → false ≡ same_from i q
+    same_stop n = rw (left, rest, ne_eqb (num o 8 f q) (get_or d i 0) n)
 
-    pub same_turn : num o 8 f (p + i * 8) ≡ get_or d i 0 → same_from (i + 1) ≡ same_from i
-    same_turn e =
-        let q : p + (i + 1) * 8 ≡ p + i * 8 + 8 = omega arith in
-        rw (q, left, rest, eq-eqb (num o 8 f (p + i * 8)) (get_or d i 0) e)
+    pub same_turn : num o 8 f q ≡ get_or d i 0 → same_from (i + 1) (q + 8) ≡ same_from i q
+    same_turn e = rw (left, rest, eq-eqb (num o 8 f q) (get_or d i 0) e)
 
 -- ---- the whole map
 

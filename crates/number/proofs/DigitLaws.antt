@@ -18,7 +18,7 @@ digit_fits d n k w b s e h c t =
     omega (arith, val_small d k s)
 
 -- the first v digits, and the w digits after them
-val_split : (d : ℕ → ℕ) (v w : ℕ) → val d (v + w) ≡ val d v * 256 ^ w + val (λ k. d (v + k)) w
+pub val_split : (d : ℕ → ℕ) (v w : ℕ) → val d (v + w) ≡ val d v * 256 ^ w + val (λ k. d (v + k)) w
 val_split d v zero = rw (add-zero v, pow-zero) (omega arith)
 val_split d v (suc w) =
     rw (add-suc, pow-suc) (omega (arith, val_split d v w, mul_assoc (val d v) (256 ^ w) 256))
@@ -36,3 +36,11 @@ number_parts v w f p a b r h k e =
 
     low : num lsf v f p ≡ val (λ i. get_or f (p + seat lsf (w + v) (w + i)) 0) v
     low = val_same _ _ v λ i c. ap (λ (q : ℕ). get_or f q 0) (omega arith)
+
+-- a number of twice w bytes
+pub number_halves : (w : ℕ) (f : List ℕ) (p a b r : ℕ) → IsNumber lsf w f p a → IsNumber lsf w f (p + w) b → r ≡ b * 256 ^ w + a → IsNumber lsf (w + w) f p r
+number_halves w = number_parts w w
+
+-- the number of one byte
+pub number_byte : (f : List ℕ) (p r : ℕ) → r ≡ get_or f p 0 → r < 256 → IsNumber lsf 1 f p r
+number_byte f p r e b = record { is = omega (arith, e, ap (λ (q : ℕ). get_or f q 0) (add-zero p)); small = b }

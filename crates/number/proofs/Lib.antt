@@ -1,3 +1,4 @@
 pub mod DigitLaws
+pub mod HalfLaws
 pub mod SwapLaws
 pub mod WriteLaws

@@ -17,7 +17,7 @@ tab_same (suc w) s t h =
     ∙ ap (λ (l : List Slot). t zero ∷ l) (tab_same w (λ i. s (suc i)) (λ i. t (suc i)) (λ i b. h (suc i) (suc-le-suc b)))
 
 -- swapped bytes, least significant byte first: they fit; as slots; and as read
-swapped_small : (w n : ℕ) → swapped w n < 256 ^ w
+pub swapped_small : (w n : ℕ) → swapped w n < 256 ^ w
 unfolding swapped
 swapped_small w n = val_small _ w (λ k. digit_small w n _)
 
@@ -46,3 +46,8 @@ pub number_ordered : (t : Bool) (w : ℕ) (f : List ℕ) (p n r : ℕ) → Bytes
 number_ordered true w f p n r u h e =
     record { is = e ∙ ap (swapped w) h.is ∙ swapped_num w f p u; small = rw e (swapped_small w n) }
 number_ordered false w f p n r u h e = record { is = e ∙ h.is; small = rw e h.small }
+
+-- one byte is the same in either
+pub byte_ordered : (t : Bool) (f : List ℕ) (p r : ℕ) → IsNumber lsf 1 f p r → IsNumber (order_by t) 1 f p r
+byte_ordered true f p r h = record { is = h.is; small = h.small }
+byte_ordered false f p r h = h

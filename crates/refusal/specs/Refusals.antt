@@ -27,6 +27,11 @@ abbrev pub code_of : {A : Type 0} → Result A Refusal → ℕ
 code_of (Ok a) = 0
 code_of (Err e) = number_of e
 
+-- an answer whose refusal is told in another way
+abbrev pub retold : {A E : Type 0} → (Refusal → E) → Result A Refusal → Result A E
+retold t (Ok a) = Ok a
+retold t (Err e) = Err (t e)
+
 -- the refusal of a question, by its number: questions are refused with 16 and 17 alone
 abbrev pub refusal_by : ℕ → Refusal
 refusal_by n = cond (eqb n 16) NotThere NotReadable

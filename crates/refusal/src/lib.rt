@@ -2,8 +2,8 @@
 
 #![tactic(auto)]
 
-ghost use Rattle.std.specs.Prelude.{◌≡◌};
-ghost use Rattle.refusal.specs.Refusals.{number_of};
+ghost use Rattle.std.specs.Prelude.{◌≡◌, ℕ};
+ghost use Rattle.refusal.specs.Refusals.{number_of, retold};
 
 // A refusal. Its number is what a caller is told: 1 to 13 of a file, in the order in which a file is judged; 14 and 15 of a rewriting;
 // 16 and 17 of a question.
@@ -37,11 +37,66 @@ pub enum Refusal {
     NotReadable = 17,
 }
 
+// What an answer is refused with: a refusal of the table, or a number, which may be any.
+pub trait Told: Copy {
+    ghost use Rattle.refusal.specs.declared.Refusal.{Refusal};
+
+    // A refusal of the table, so told.
+    ghost told: { Refusal → Self };
+
+    // Its number.
+    ghost own: { Self → ℕ };
+
+    fn tell(refusal: Refusal) -> Self
+        ensures { result ≡ told refusal };
+
+    fn own(self) -> u8
+        ensures { result ≡ own self };
+}
+
+impl Told for Refusal {
+    ghost told = { λ r. r };
+
+    ghost own = { number_of };
+
+    fn tell(refusal: Refusal) -> Refusal {
+        refusal
+    }
+
+    fn own(self) -> u8 {
+        self.number()
+    }
+}
+
+impl Told for u8 {
+    ghost told = { number_of };
+
+    ghost own = { λ n. n };
+
+    fn tell(refusal: Refusal) -> u8 {
+        refusal.number()
+    }
+
+    fn own(self) -> u8 {
+        self
+    }
+}
+
 impl Refusal {
     // Its number.
     pub fn number(self) -> u8
         ensures { result ≡ number_of self }
     {
         self as u8
+    }
+}
+
+// An answer, its refusal told in another way.
+pub fn retell<A: Copy, E: Told>(r: Result<A, Refusal>) -> Result<A, E>
+    ensures { result ≡ retold E.told r }
+{
+    match r {
+        Ok(x) => Ok(x),
+        Err(refusal) => Err(E::tell(refusal)),
     }
 }

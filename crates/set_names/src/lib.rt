@@ -9,6 +9,7 @@ ghost use Rattle.set_names.specs.Names.{IsName, less, in_order, IsFirst};
 
 use answers::Part;
 use checking::Layout;
+use refusal::Refusal;
 
 // The label-set name of variable `i`; an empty text where it is refused.
 pub fn name_of(f: &[u8], l: Layout, i: u64) -> Part
@@ -22,7 +23,7 @@ pub fn is_less(f: &[u8], a: Part, b: Part) -> bool
     requires { (a.at + a.len ≤ length f.now) × (b.at + b.len ≤ length f.now) }
     ensures { result ≡ less (slice f.now a.at a.len) (slice f.now b.at b.len) }
 {
-    answers::part_of(f, Ok(a)) < answers::part_of(f, Ok(b))
+    answers::part_of::<Refusal>(f, Ok(a)) < answers::part_of::<Refusal>(f, Ok(b))
 }
 
 // Whether the variables are listed in the order of their label-set names.

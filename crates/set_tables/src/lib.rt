@@ -40,7 +40,7 @@ fn is_next(t: &[u64; 32768], f: &[u8], l: Layout, v: &[u64], k: usize, text: Par
         return false;
     }
     let name = set_names::name_of(f, l, v[k]);
-    answers::part_of(f, Ok(name)) == answers::part_of(f, Ok(text))
+    answers::part_of::<Refusal>(f, Ok(name)) == answers::part_of::<Refusal>(f, Ok(text))
 }
 
 // Stores `x` for each variable whose label-set name is `text`, where no block was found for it.

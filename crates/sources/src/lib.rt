@@ -50,7 +50,7 @@ fn end(p: u64, tagged: bool, n: usize) -> usize
 }
 
 // Where the contents of an accepted file's parts stand, by its layout.
-fn source_of(f: &[u8], l: Layout) -> Source
+pub fn source_of(f: &[u8], l: Layout) -> Source
     requires { Own f.now l }
     ensures { Sourced f.now result }
 {

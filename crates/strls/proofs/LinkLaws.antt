@@ -1,18 +1,40 @@
 -- References and cells, step by step.
 use mathlib.Core.Path.{◌≡◌, refl, sym, ◌∙◌}
-use Prim.Native.Nat.{ℕ, ◌+◌, ◌-◌, ◌≤◌, ◌<◌}
+use Prim.Native.Nat.{ℕ, suc, ◌+◌, ◌-◌, ◌≤◌, ◌<◌}
 use native.Mathlib.Omega.{arith}
 use native.Mathlib.Numerals.{add-one}
 use mathlib.Core.List.{List}
 use mathlib.Core.Bool.{Bool, true, false, ◌||◌, ◌&&◌}
-use lib.Dec.{eqb}
-use borrow.Author.Tests.{eq-eqb, eqb-true, le-leb, lt-leb, le-ltb}
+use lib.Dec.{eqb, leb}
+use borrow.Author.Tests.{eq-eqb, eqb-true, le-leb, lt-leb, lt-ltb, le-ltb, ne_eqb}
 use Rattle.format.specs.Number.{num}
 use Rattle.format.proofs.Good.{and_left, and_right}
 use Rattle.std.specs.Prelude.{Ok}
 use Rattle.strls.specs.declared.Frame.{Frame}
 use Rattle.strls.specs.Records.{order_of}
-use Rattle.strls.specs.Links.{earlier, place_of, is_long, link_at, self_at, ref_ok, link_ok, cell_step}
+use Rattle.strls.specs.Links.{earlier, place_of, is_long, link_at, self_at, ref_ok, link_ok, broken, record_step, cell_step}
+
+-- ---- whether a cell is (i, j) or earlier
+
+module _ (v x i j : ℕ) where
+  pub before_row : x < j → true ≡ earlier v x i j
+  before_row h = rw (lt-ltb x j h)
+
+  module _ (h : j ≤ x) where
+    pub after_row : (x ≡ j → ⊥) → false ≡ earlier v x i j
+    after_row n = rw (le-ltb x j h, ne_eqb x j n)
+
+    pub same_row : x ≡ j → leb v i ≡ earlier v x i j
+    same_row e = rw (le-ltb x j h, eq-eqb x j e)
+
+or_first : (s t : Bool) → s ≡ true → true ≡ (s || t)
+or_first s t e = rw e
+
+or_none : (s t u : Bool) → s ≡ false → t ≡ false → false ≡ (s || (t && u))
+or_none s t u a b = rw (a, b)
+
+or_last : (s t u : Bool) → s ≡ false → t ≡ true → u ≡ (s || (t && u))
+or_last s t u a b = rw (a, b)
 
 or_both : (s t u : Bool) → t ≡ true → u ≡ true → true ≡ (s || (t && u))
 or_both true t u a b = refl
@@ -62,6 +84,9 @@ module _ (f : List ℕ) (d : Frame) where
     unfolding link_ok
     ref_is = rw (a, b, e, add-one i, add-one j)
 
+    pub ref_empty : link_at f d p 0 0 ≡ true → true ≡ link_ok f d i j
+    ref_empty z = or_first (eqb v 0 && eqb x 0) (earlier v x (i + 1) (j + 1) && self_at f d v x) (rw (a, b) z) ∙ ref_is
+
     -- a cell that names itself is right
     pub ref_own : i < d.k → j < d.n → is_long f d i ≡ true → link_at f d p (i + 1) (j + 1) ≡ true → true ≡ link_ok f d i j
     ref_own h n l z =
@@ -70,9 +95,16 @@ module _ (f : List ℕ) (d : Frame) where
         let g : v - 1 ≡ i = omega arith in
         let k : x - 1 ≡ j = omega arith in
         let s : link_at f d (place_of f d (v - 1) (x - 1)) v x ≡ true = rw (g, k, ← e, y, w) z in
-        let t : earlier v x (i + 1) (j + 1) ≡ true = rw (le-ltb x (j + 1) (omega arith), eq-eqb x (j + 1) w) (le-leb v (i + 1) (omega arith)) in
+        let t : earlier v x (i + 1) (j + 1) ≡ true = sym (same_row v x (i + 1) (j + 1) (omega arith) w) ∙ le-leb v (i + 1) (omega arith) in
         let u : self_at f d v x ≡ true = sym (self_is v x (omega arith) (omega arith) (omega arith) (omega arith) (rw g l)) ∙ s in
         or_both (eqb v 0 && eqb x 0) (earlier v x (i + 1) (j + 1)) (self_at f d v x) t u ∙ ref_is
+
+    module _ (z : link_at f d p 0 0 ≡ false) where
+      pub ref_late : earlier v x (i + 1) (j + 1) ≡ false → false ≡ link_ok f d i j
+      ref_late n = or_none (eqb v 0 && eqb x 0) (earlier v x (i + 1) (j + 1)) (self_at f d v x) (rw (a, b) z) n ∙ ref_is
+
+      pub ref_self : earlier v x (i + 1) (j + 1) ≡ true → self_at f d v x ≡ link_ok f d i j
+      ref_self n = or_last (eqb v 0 && eqb x 0) (earlier v x (i + 1) (j + 1)) (self_at f d v x) (rw (a, b) z) n ∙ ref_is
 
   -- ---- a cell, where the record at q is due
 
@@ -80,3 +112,20 @@ module _ (f : List ℕ) (d : Frame) where
     pub step_other : is_long f d i ≡ false → Ok q ≡ cell_step f d i j q
     unfolding cell_step
     step_other a = rw a
+
+    module _ (a : is_long f d i ≡ true) where
+      pub step_bad : link_ok f d i j ≡ false → broken ≡ cell_step f d i j q
+      unfolding cell_step
+      step_bad b = rw (a, b)
+
+      module _ (b : link_ok f d i j ≡ true) (p : ℕ) (s : p ≡ place_of f d i j) where
+        there : {r : Bool} → link_at f d p (i + 1) (j + 1) ≡ r → link_at f d (place_of f d i j) (suc i) (suc j) ≡ r
+        there e = rw (← s, ← add-one i, ← add-one j) e
+
+        pub step_ref : link_at f d p (i + 1) (j + 1) ≡ false → Ok q ≡ cell_step f d i j q
+        unfolding cell_step
+        step_ref e = rw (a, b, there e)
+
+        pub step_size : link_at f d p (i + 1) (j + 1) ≡ true → record_step f d q (i + 1) (j + 1) ≡ cell_step f d i j q
+        unfolding cell_step
+        step_size e = rw (a, b, there e, add-one i, add-one j)

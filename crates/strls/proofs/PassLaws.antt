@@ -79,6 +79,9 @@ module _ (f : List ℕ) (d : Frame) where
       pub run_less : i < get_or s (i + 1) 0
       run_less = omega (arith, T.nexts (i + 1) (omega arith) (omega arith), next_least f d (d.k - (i + 1)) (i + 1))
 
+    pub run_ends : {j start i q : ℕ} → Running j start i q → d.k ≤ i → Ran f (run d.k 0 j start) (Ok q)
+    run_ends {i = i} R b = let e : d.k - i ≡ 0 = omega arith in record { is = rw e at R.same; inside = R.here }
+
   -- ---- the data
 
   -- no variable is strL: no row need be read
@@ -101,6 +104,9 @@ module _ (f : List ℕ) (d : Frame) where
     pub here : q ≤ length f
     pub same : data_run f d (d.n - j) j q ≡ data_run f d d.n 0 start
 
+  pub pass_starts : (start : ℕ) → start ≤ length f → Passing start 0 start
+  pass_starts start h = record { most = omega arith; here = h; same = rw sub-zero }
+
   module _ {start j q : ℕ} (P : Passing start j q) where
     module _ (b : j < d.n) where
       rest : d.n - j ≡ suc (d.n - (j + 1))
@@ -115,6 +121,9 @@ module _ (f : List ℕ) (d : Frame) where
       pass_turns {p} C =
           let h : data_run f d (d.n - (j + 1)) (j + 1) p ≡ data_run f d (d.n - j) j q = rw (rest, ← C.is, add-one j) in
           record { most = omega arith; here = C.inside; same = h ∙ P.same }
+
+    pub pass_ends : d.n ≤ j → Ran f (data_run f d d.n 0 start) (Ok q)
+    pass_ends b = let e : d.n - j ≡ 0 = omega arith in record { is = rw e at P.same; inside = P.here }
 
   -- ---- the end
 

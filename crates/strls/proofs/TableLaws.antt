@@ -11,12 +11,13 @@ use lib.Dec.{eqb}
 use borrow.Author.Tests.{eqb-true, eqb-false, eq-eqb, ne_eqb}
 use Rattle.format.specs.Variables.{VarType, text_type, strl_type, byte_type, int_type, long_type, float_type, double_type}
 use Rattle.codes.specs.declared.Field.{Field}
+use Rattle.codes.specs.declared.Kind.{Kind}
 use Rattle.codes.specs.Fields.{field_by}
 use Rattle.data.specs.Places.{field_at}
 use Rattle.data.proofs.PlaceLaws.{type_at, field_type, off_small, off_more, cell_in}
 use Rattle.strls.specs.declared.Frame.{Frame}
 use Rattle.strls.specs.Records.{order_of}
-use Rattle.strls.specs.Links.{str_l, offset_of, place_of, is_long, next_long, Framed, Nexts, Tabled}
+use Rattle.strls.specs.Links.{str_l, offset_of, place_of, is_long, next_long, Framed, Offsets, Nexts, Tabled}
 
 pub never : false ≡ true → ⊥
 never z = subst (λ (b : Bool). cond b ⊥ (Unit {0})) z tt
@@ -35,6 +36,11 @@ long_width : (x : VarType) → str_l (field_by x).kind ≡ true → (field_by x)
 long_width x h = ap (λ (y : VarType). (field_by y).width) (long_type_lem x h)
 
 module _ (f : List ℕ) (d : Frame) where
+  -- a field in hand, by its kind
+  pub long_is : (i : ℕ) (x : Field) (k : Kind) → x ≡ field_at d.tagged (order_of d) f d.types i → x.kind ≡ k → str_l k ≡ is_long f d i
+  unfolding is_long
+  long_is i x k e h = ap str_l (sym h) ∙ ap (λ (y : Field). str_l y.kind) e
+
   -- the field of variable i is its type's
   pub type_field_lem : Framed f d → (i : ℕ) → i < d.k → field_at d.tagged (order_of d) f d.types i ≡ field_by (type_at d.tagged (order_of d) f d.types i)
   type_field_lem F i b = field_type d.tagged (order_of d) f d.types d.k F.typed.right i b
@@ -52,6 +58,16 @@ module _ (f : List ℕ) (d : Frame) where
 
   pub sum_small : Framed f d → (i s : ℕ) (x : Field) → i < d.k → s ≡ offset_of f d i → x ≡ field_at d.tagged (order_of d) f d.types i → s + x.width ≤ 67008515
   sum_small F i s x b e h = omega (arith, off_more d.tagged (order_of d) f d.types i s x e h, offset_small F.typed.few (i + 1) (omega arith))
+
+  pub offsets_start : (t : List ℕ) → 0 < length t → Offsets f d 0 (set t 0 0)
+  offsets_start t h i b = let e : i ≡ 0 = omega arith in rw e (get_or-set_same t 0 0 0 h)
+
+  pub offsets_more : (t : List ℕ) (i s : ℕ) → i + 1 < length t → s ≡ offset_of f d (i + 1) → Offsets f d i t → Offsets f d (i + 1) (set t (i + 1) s)
+  offsets_more t i s h e p j b = go (eqb j (i + 1)) refl
+    where
+      go : (r : Bool) → eqb j (i + 1) ≡ r → get_or (set t (i + 1) s) j 0 ≡ offset_of f d j
+      go true q = rw (eqb-true j (i + 1) q) (get_or-set_same t (i + 1) s 0 h ∙ e)
+      go false q = get_or-set_other t (i + 1) j s 0 (eqb-false j (i + 1) q) ∙ p j (omega (arith, eqb-false j (i + 1) q))
 
   -- ---- the next strL variable
 
@@ -86,6 +102,12 @@ module _ (f : List ℕ) (d : Frame) where
       go : (b : Bool) → is_long f d i ≡ b → eqb (cond (is_long f d i) i (next_long f d m (suc i))) i ≡ is_long f d i
       go true e = rw e (eq-eqb i i refl)
       go false e = rw e (ne_eqb (next_long f d m (suc i)) i (λ z. (let y : next_long f d m (suc i) ≡ i = z in omega (arith, next_least m (suc i)))))
+
+  pub nexts_start : (s : List ℕ) → d.k < length s → Nexts f d d.k (set s d.k d.k)
+  nexts_start s h i a b =
+      let e : i ≡ d.k = omega arith in
+      let z : d.k - d.k ≡ 0 = omega arith in
+      rw (e, z) (get_or-set_same s d.k d.k 0 h)
 
   pub nexts_more : (s : List ℕ) (i v : ℕ) (b : Bool) → 0 < i → i ≤ d.k → i - 1 < length s → b ≡ is_long f d (i - 1) → v ≡ cond b (i - 1) (get_or s i 0) → Nexts f d i s
       → Nexts f d (i - 1) (set s (i - 1) v)

@@ -52,8 +52,15 @@ module _ {f : List ℕ} {a d : Answer} where
   date_refused e P (no c z x y) = let h : e ≡ refusal_by c = cc (P ∙ ap part_by x) in ap Err h ∙ ap mark_by (sym y)
   date_refused e P (yes q m x i y) = absurd (false≢true (cc (P ∙ ap part_by x)))
 
-  pub date_marked : (p : Part) → Ok p ≡ part_by a → Dated f a d → Ok (is_date (part_in f (Ok p))) ≡ mark_by d
+  pub date_marked : (p : Part) → Ok p ≡ part_by a → Dated f a d → Ok (is_date (part_in {E = Refusal} f (Ok p))) ≡ mark_by d
   date_marked p P (no c z x y) = absurd (false≢true (cc (P ∙ ap part_by x)))
   date_marked p P (yes q m x i y) =
       let h : p ≡ record { at = q; len = m } = cc (P ∙ ap part_by x) in
       rw (h, le-leb (q + m) (length f) i) (ap mark_by (sym y))
+
+  -- the format is in the file, and the mark is that of its text
+  pub date_there : (p : Part) → Ok p ≡ part_by a → Dated f a d → (p.at + p.len ≤ length f) × (mark_by d ≡ Ok (is_date (slice f p.at p.len)))
+  date_there p P (no c z x y) = absurd (false≢true (cc (P ∙ ap part_by x)))
+  date_there p P (yes q m x i y) =
+      let h : p ≡ record { at = q; len = m } = cc (P ∙ ap part_by x) in
+      rw h (i, ap mark_by y)

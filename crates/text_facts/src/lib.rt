@@ -116,5 +116,5 @@ pub fn date_mark(f: &[u8], l: Layout, i: u64) -> Result<bool, Refusal>
     ensures { result ≡ mark_by (answer_of f.now (layout_by l) (ask_date i)) }
 {
     let format = format(f, l, i)?;
-    Ok(is_date(answers::part_of(f, Ok(format))))
+    Ok(is_date(answers::part_of::<Refusal>(f, Ok(format))))
 }

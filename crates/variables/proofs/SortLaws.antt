@@ -8,7 +8,7 @@ use mathlib.Core.Bool.{Bool, true, false, ◌||◌}
 use lib.ListN.{length, get_or, set, replicate, get_or-replicate}
 use lib.Seq.{get_or-set_same, get_or-set_other}
 use lib.Dec.{eqb, ltb, leb-suc-suc}
-use borrow.Author.Tests.{eqb-true, eqb-false, ne_eqb, le-leb, lt-leb}
+use borrow.Author.Tests.{eqb-true, eqb-false, ne_eqb, le-leb, lt-leb, lt-ltb}
 use Rattle.format.specs.Number.{Order, num}
 use Rattle.format.specs.Grammar.{also, unless, ended, ended_at, member, ruled}
 use Rattle.format.specs.Variables.{fresh}
@@ -36,6 +36,9 @@ also_eight : (a : Bool) → also (unless a 8) 8 ≡ 8
 also_eight true = refl
 also_eight false = refl
 
+of_nil : (k n : ℕ) (e : List ℕ) → 0 ≡ sort_of k (suc n) e []
+of_nil k n e = rw (lt-ltb 0 (suc n) (omega arith))
+
 module _ (k n x : ℕ) (e l : List ℕ) where
   of_large : k < x → 8 ≡ sort_of k n e (x ∷ l)
   of_large h = rw (lt-leb x k h) (sym (also_eight (ltb (suc (length l)) n)))
@@ -55,6 +58,10 @@ module _ (o : Order) (f : List ℕ) where
     left : k + 1 - i ≡ suc (k + 1 - (i + 1))
     left = omega arith
 
+    -- a zero ends the list
+    pub sort_stop : num o 2 f q ≡ 0 → 0 ≡ sort_rest k (k + 1 - i) e q
+    sort_stop z = of_nil k (k + 1 - (i + 1)) e ∙ rw (left, z)
+
     -- a number too large, or seen, is refused; after another the rest decides
     at_more : (num o 2 f q ≡ 0 → ⊥) → sort_of k (suc (k + 1 - (i + 1))) e (num o 2 f q ∷ ended_at o 2 (k + 1 - (i + 1)) f (q + 2)) ≡ sort_rest k (k + 1 - i) e q
     at_more z = rw (left, ne_eqb (num o 2 f q) 0 z)
@@ -68,6 +75,10 @@ module _ (o : Order) (f : List ℕ) where
     pub sort_turn : (num o 2 f q ≡ 0 → ⊥) → num o 2 f q ≤ k → member (num o 2 f q) e ≡ false
         → sort_rest k (k + 1 - (i + 1)) (num o 2 f q ∷ e) (q + 2) ≡ sort_rest k (k + 1 - i) e q
     sort_turn z h m = of_turn k _ (num o 2 f q) e (ended_at o 2 (k + 1 - (i + 1)) f (q + 2)) h m ∙ at_more z
+
+  -- no zero ends the list
+  pub sort_none : (k q n : ℕ) (e : List ℕ) → n ≡ 0 → 8 ≡ sort_rest k n e q
+  sort_none k q n e z = rw z
 
   -- the whole list
   pub sort_in : (k p : ℕ) → sort_rest k (k + 1) [] p ≡ (ruled (ended o 2 (suc k) 8) (fresh k []) 8).judge f p

@@ -3,8 +3,8 @@
 
 #![tactic(auto)]
 
-ghost use Rattle.std.specs.Prelude.{◌≡◌, [], IfOk};
-ghost use Rattle.format.specs.Dta.{verdict, layout_of};
+ghost use Rattle.std.specs.Prelude.{◌≡◌, [], IfOk, IfErr};
+ghost use Rattle.format.specs.Dta.{verdict, layout_of, no_layout};
 ghost use Rattle.refusal.specs.Refusals.{code_of};
 ghost use Rattle.checking.specs.Checks.{layout_by};
 ghost use Rattle.asking.specs.Asking.{Asked};
@@ -35,10 +35,10 @@ const NO_LAYOUT: Layout = Layout {
 pub fn checked_layout(file: &[u8], code: &mut u8) -> Layout
     ensures { (code.new ≡ verdict file.now) × (layout_by result ≡ layout_of file.now) }
 {
-    match checking::check(file) {
-        Ok(layout) => {
+    match View::accepted(file) {
+        Ok(view) => {
             *code = 0;
-            layout
+            view.layout
         }
         Err(refusal) => {
             *code = refusal.number();
@@ -66,6 +66,7 @@ impl<'a> View<'a> {
     pub fn accepted(file: &'a [u8]) -> Result<View<'a>, Refusal>
         ensures code { code_of result ≡ verdict file.now }
         ensures view { IfOk result (λ v. (v.file ≡ file.entry) × (layout_by v.layout ≡ layout_of file.now)) }
+        ensures bare { IfErr result (λ e. no_layout ≡ layout_of file.now) }
     {
         let layout = checking::check(file)?;
         Ok(View { file, layout })

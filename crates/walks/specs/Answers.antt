@@ -21,18 +21,22 @@ long_by (cell s) = Err NotReadable
 long_by (plain t) = Err NotReadable
 long_by (long k p n) = Ok (record { kind = k; at = p; len = n })
 
--- the label words of an answer: a part of the file, none where the plain text is shown, or the refusal
+-- the label words of an answer: a part of the file, none where the plain text is shown, or the refusal, told as t says
+abbrev pub words_told : {E : Type 0} → (Refusal → E) → Answer → Result (Option Part) E
+words_told t (refused c) = Err (t (refusal_by c))
+words_told t (count n) = Err (t NotReadable)
+words_told t (mark b) = Err (t NotReadable)
+words_told t (typed k) = Err (t NotReadable)
+words_told t (part p n) = Ok (Some (record { at = p; len = n }))
+words_told t (column k p n) = Err (t NotReadable)
+words_told t (labels s) = Err (t NotReadable)
+words_told t (cell s) = Err (t NotReadable)
+words_told t (plain x) = Ok None
+words_told t (long k p n) = Err (t NotReadable)
+
+-- .. as it is
 abbrev pub words_by : Answer → Result (Option Part) Refusal
-words_by (refused c) = Err (refusal_by c)
-words_by (count n) = Err NotReadable
-words_by (mark b) = Err NotReadable
-words_by (typed t) = Err NotReadable
-words_by (part p n) = Ok (Some (record { at = p; len = n }))
-words_by (column t p n) = Err NotReadable
-words_by (labels s) = Err NotReadable
-words_by (cell s) = Err NotReadable
-words_by (plain t) = Ok None
-words_by (long k p n) = Err NotReadable
+words_by a = words_told (λ r. r) a
 
 -- ---- label sets
 

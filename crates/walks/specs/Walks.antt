@@ -12,7 +12,7 @@ use Rattle.walks.specs.declared.Block.{Block}
 use Rattle.reading.specs.Reads.{place_in}
 use Rattle.walks.specs.declared.LabelSet.{LabelSet}
 use Rattle.answers.specs.declared.Part.{Part}
-use Rattle.walks.specs.Answers.{words_by}
+use Rattle.walks.specs.Answers.{words_told, words_by}
 
 -- ---- records
 
@@ -103,24 +103,33 @@ table_place o f p q =
 abbrev pub set_place : Order → List ℕ → Option LabelSet → ℤ → Answer
 set_place o f s q = in_set (table_place o f) s q
 
--- .. the set's refusal, where it is refused
+-- .. the set's refusal, where it is refused; another is told as t says
+abbrev pub placed_told : {E : Type 0} → (Refusal → E) → Order → List ℕ → Result (Option LabelSet) E → ℤ → Result (Option Part) E
+placed_told t o f (Ok s) q = words_told t (set_place o f s q)
+placed_told t o f (Err e) q = Err e
+
 abbrev pub placed_in : Order → List ℕ → Result (Option LabelSet) Refusal → ℤ → Result (Option Part) Refusal
-placed_in o f (Ok s) q = words_by (set_place o f s q)
-placed_in o f (Err e) q = Err e
+placed_in o f s q = placed_told (λ r. r) o f s q
 
 -- the words at p, of which n bytes are left in the text area: up to the first zero, which must be there
 abbrev pub ended_in : List ℕ → ℕ → ℕ → Try Answer
 ended_in f p n = bind (text_in n f p) λ t. bind (test (ltb (length t) n)) λ u. got (part p (length t))
 
--- words up to their end, by where they stand
-unfoldable pub ended_by : List ℕ → Option Part → Result (Option Part) Refusal
-ended_by f (Some w) = words_by (or_refused (ended_in f w.at w.len))
-ended_by f None = Ok None
+-- words up to their end, by where they stand; a refusal is told as t says
+unfoldable pub ended_told : {E : Type 0} → (Refusal → E) → List ℕ → Option Part → Result (Option Part) E
+ended_told t f (Some w) = words_told t (or_refused (ended_in f w.at w.len))
+ended_told t f None = Ok None
+
+abbrev pub ended_by : List ℕ → Option Part → Result (Option Part) Refusal
+ended_by f w = ended_told (λ r. r) f w
 
 -- .. where they are not refused
+abbrev pub all_told : {E : Type 0} → (Refusal → E) → List ℕ → Result (Option Part) E → Result (Option Part) E
+all_told t f (Ok w) = ended_told t f w
+all_told t f (Err e) = Err e
+
 abbrev pub all_ended : List ℕ → Result (Option Part) Refusal → Result (Option Part) Refusal
-all_ended f (Ok w) = ended_by f w
-all_ended f (Err e) = Err e
+all_ended f w = all_told (λ r. r) f w
 
 -- ---- label blocks
 

@@ -4,10 +4,10 @@ ghost use Rattle.std.specs.Prelude.{◌≡◌, ℕ, ◌+◌, ◌*◌, ◌<◌, �
 ghost use Rattle.format.specs.Number.{order_by};
 ghost use Rattle.questions.specs.Ask.{or_refused, slice};
 ghost use Rattle.walks.specs.Answers.{long_by, words_by, set_by};
-ghost use Rattle.walks.specs.Walks.{IsSize, is_of, long_at, records_from, entry_place, slot_place, table_place, placed_in, all_ended, open_size, close_size, is_sized, IsBlock, same_name, block_labels};
+ghost use Rattle.walks.specs.Walks.{IsSize, is_of, long_at, records_from, entry_place, slot_place, table_place, placed_told, all_told, open_size, close_size, is_sized, IsBlock, same_name, block_labels};
 
 use answers::Part;
-use refusal::Refusal;
+use refusal::{Refusal, Told};
 use search::Slot;
 
 // A long string: kind, place and length of the contents.
@@ -151,31 +151,33 @@ fn table_place(f: &[u8], p: u64, q: i32, msf: bool) -> Result<Option<Part>, Refu
 }
 
 // Where the words for the value `q` in a label set stand, and how many text bytes are left from there on; none in a set without labels. A refused set has
-// its refusal.
-pub fn place_in_set(
+// its refusal, which may be told by any number.
+pub fn place_in_set<E: Told>(
     f: &[u8],
-    s: Result<Option<LabelSet>, Refusal>,
+    s: Result<Option<LabelSet>, E>,
     q: i32,
     msf: bool,
-) -> Result<Option<Part>, Refusal>
-    ensures { result ≡ placed_in (order_by msf) f.now s q }
+) -> Result<Option<Part>, E>
+    ensures { result ≡ placed_told E.told (order_by msf) f.now s q }
 {
-    match s? {
-        Some(set) => table_place(f, set.at, q, msf),
-        None => Ok(None),
-    }
+    let Some(set) = s? else {
+        return Ok(None);
+    };
+    refusal::retell(table_place(f, set.at, q, msf))
 }
 
-// Words up to their end, by where they stand and how many text bytes are left from there on; none where there are none. A refusal stays.
-pub fn ended(f: &[u8], w: Result<Option<Part>, Refusal>) -> Result<Option<Part>, Refusal>
-    ensures { result ≡ all_ended f.now w }
+// Words up to their end, by where they stand and how many text bytes are left from there on; none where there are none. A refusal stays, told by any number.
+pub fn ended<E: Told>(f: &[u8], w: Result<Option<Part>, E>) -> Result<Option<Part>, E>
+    ensures { result ≡ all_told E.told f.now w }
 {
     let Some(Part { at, len: left }) = w? else {
         return Ok(None);
     };
-    let len = reading::text_in(f, at, left as usize).ok_or(Refusal::NotReadable)?;
+    let Some(len) = reading::text_in(f, at, left as usize) else {
+        return Err(E::tell(Refusal::NotReadable));
+    };
     if left <= len {
-        return Err(Refusal::NotReadable);
+        return Err(E::tell(Refusal::NotReadable));
     }
     Ok(Some(Part { at, len }))
 }

@@ -1,5 +1,5 @@
 -- A text area, where ends of texts are looked up.
-use Rattle.std.specs.Prelude.{◌≡◌, ℕ, ◌+◌, ◌-◌, ◌≤◌, List, length}
+use Rattle.std.specs.Prelude.{◌≡◌, ℕ, ◌+◌, ◌-◌, ◌≤◌, List, length, Option, Some, None}
 use Rattle.answers.specs.declared.Part.{Part}
 use Rattle.word_runs.specs.declared.Area.{Area}
 use Rattle.word_runs.specs.declared.Listing.{Listing}
@@ -14,6 +14,11 @@ pub record StandsAt (r : Area) (w : Part) (y : ℕ) : Type 0 where
   pub from : r.at + y ≡ w.at
   pub upto : y ≤ r.len
   pub rest : w.len ≡ r.len - y
+
+-- r is where they stand; none where they stand nowhere in the area
+abbrev pub Stands : Area → Part → Option ℕ → Type 0
+Stands r w (Some y) = StandsAt r w y
+Stands r w None = (y : ℕ) → StandsAt r w y → ⊥
 
 -- the part of the text area whose bytes have their ends listed
 abbrev pub listed_part : Listing → Area

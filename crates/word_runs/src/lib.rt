@@ -15,7 +15,7 @@ ghost use Rattle.walks.specs.Answers.{words_by};
 ghost use Rattle.walks.specs.Walks.{all_ended};
 ghost use Rattle.label_words.specs.Words.{said_in, cell_words};
 ghost use Rattle.text_ends.specs.Ends.{Ends};
-ghost use Rattle.word_runs.specs.Areas.{InFile, StandsAt, listed_part};
+ghost use Rattle.word_runs.specs.Areas.{InFile, Stands, listed_part};
 ghost use Rattle.word_runs.specs.Words.{words_down, SetGiven, GapGiven, ColumnGiven, ListingFits, Cheap, had_of, Unlisted, Listed, Resumed};
 ghost use Rattle.coded.specs.Coded.{numbers_of, told, following, Tells};
 
@@ -62,7 +62,7 @@ fn text_area(f: &[u8], s: Option<LabelSet>, msf: bool) -> Option<Area>
 
 // Where in the text area words stand, if as many text bytes are left to them as the area has from there on.
 fn place_in_area(area: Area, w: Part) -> Option<usize>
-    ensures { IfSome result (StandsAt area w) }
+    ensures { Stands area w result }
 {
     let y = w.at.checked_sub(area.at as u64)?;
     let x = area.len as u64;
@@ -155,7 +155,7 @@ fn words_at(
 {
     match h {
         Ok(h) => {
-            let row = cells::row_in(f, Ok(h.c.row), j, l.n, l.places[9], gap);
+            let row = cells::row_in::<Refusal>(f, Ok(h.c.row), j, l.n, l.places[9], gap);
             let said = cells::cell_in_row(f, row, h.c, h.o.e.v_width, h.o.e.o_width, h.o.msf);
             words_of(f, s, said, h.o.msf, t, x)
         }

@@ -18,7 +18,7 @@ use Rattle.format.specs.Data.{Cell, cell_width}
 use Rattle.format.proofs.Good.{and_left, and_right}
 use Rattle.format.proofs.DataLaws.{cell_good}
 use Rattle.format.proofs.WriteLaws.{fill_append, fill_length}
-use Rattle.data.proofs.PlaceLaws.{width_is, rows_next, row_in_lem}
+use Rattle.data.proofs.PlaceLaws.{off_small, width_is, rows_next, row_in_lem}
 use Rattle.text.proofs.Lay.{Laid, laid_part, laid_as}
 use Rattle.writing.specs.Writes.{Puts}
 use Rattle.write_data.specs.declared.Source.{Source}
@@ -27,7 +27,7 @@ use Rattle.write_data.specs.Rows.{from, to, put_times, Eights, row_span, types_o
 use Rattle.write_data.specs.Runs.{run_step, run_size, run_bytes, kind_at, count_at, runs_size, runs_bytes, one_run, Planned}
 use Rattle.write_data.specs.Blocks.{block_bytes}
 use Rattle.write_data.proofs.PutLaws.{laid_end, times_split, times_more, times_length}
-use Rattle.write_data.proofs.RunLaws.{run_join}
+use Rattle.write_data.proofs.RunLaws.{count_size, run_join}
 
 module _ (f : List ℕ) (g : Source) (h : Forms) (F : Sourced f g) (E : Eights h) where
   -- ---- a row's width, as it is read and as it is put
@@ -161,6 +161,17 @@ module _ (f : List ℕ) (g : Source) (h : Forms) (F : Sourced f g) (E : Eights h
     -- its bytes are there
     pub one_size : run_size s (c * g.n) ≡ g.n * row_span f g
     one_size = size_times g.n
+
+    pub one_count : c ≤ 18446744073709551615
+    one_count =
+        omega (
+          arith,
+          count_size s c,
+          span,
+          F.typed.few,
+          off_small g.tagged (order_by g.msf) f g.types g.k,
+          mul-le-mul_right {m = g.k} {n = 32767} 2045 (omega (arith, F.typed.few)),
+        )
 
     pub one_puts : (w : ℕ) → w ≡ row_span f g → (d u : List ℕ) → u ≡ run_bytes h s (c * g.n) f g.p ++ drop (run_size s (c * g.n)) d → u ≡ rows_bytes f g h ++ drop (g.n * w) d
     unfolding rows_bytes

@@ -1,12 +1,12 @@
 -- Laws of a map that is written.
 use mathlib.Core.Path.{◌≡◌, refl, sym, ap, ◌∙◌}
-use Prim.Native.Nat.{ℕ, ◌+◌, ◌*◌, ◌<◌}
+use Prim.Native.Nat.{ℕ, ◌+◌, ◌*◌, ◌≤◌, ◌<◌}
 use native.Mathlib.Numerals.{add-one}
 use native.Mathlib.Omega.{arith}
 use mathlib.Core.List.{List, [], ◌∷◌, ◌++◌, append_assoc, append-nil}
 use mathlib.Core.Bool.{Bool, true, false, cond}
 use lib.ListN.{length, take, get_or, length-append}
-use lib.Seq.{take-suc}
+use lib.Seq.{take-suc, take_all}
 use Rattle.format.specs.Slot.{fill}
 use Rattle.format.specs.Number.{Order, num_slots}
 use Rattle.format.specs.Grammar.{number, within, times, all_slots, between, tag}
@@ -36,6 +36,10 @@ module _ (o : Order) where
   pub positions_turn : (l : List ℕ) (i : ℕ) → i < length l → positions (take i l) ++ fill (num_slots o 8 (get_or l i 0)) ≡ positions (take (i + 1) l)
   positions_turn l i b = sym (ap positions (ap (λ (k : ℕ). take k l) (add-one i) ∙ take-suc l i 0 b) ∙ positions_more (take i l) (get_or l i 0))
 
+  -- all
+  pub positions_all : (l : List ℕ) (i : ℕ) → length l ≤ i → positions (take i l) ≡ positions l
+  positions_all l i b = ap positions (take_all i l b)
+
   pub positions_length : (l : List ℕ) → length (positions l) ≡ length l * 8
   positions_length [] = refl
   positions_length (x ∷ l) =
@@ -50,6 +54,12 @@ unfolding file_map
 map_parts o l =
     append_assoc (opening true n_map) (positions o l) (closing true n_map)
     ∙ sym (fill_between (opening true n_map) (closing true n_map) (within 112 (times (number o 8) 14)) l)
+
+pub map_room : (t : Bool) (n : ℕ) → t ≡ true → cond t 123 0 ≤ n → 123 ≤ n
+map_room t n e h = rw e at h
+
+pub map_tagged : (t : Bool) (o : Order) (l d w : List ℕ) (r : ℕ) → t ≡ true → Puts (fill ((file_map true o).slots l)) d w r → Puts (fill ((file_map t o).slots (cond t l []))) d w r
+map_tagged t o l d w r e h = rw e h
 
 -- an untagged edition has none
 pub map_untagged : (t : Bool) (o : Order) (l d : List ℕ) → t ≡ false → Puts (fill ((file_map t o).slots (cond t l []))) d d 0

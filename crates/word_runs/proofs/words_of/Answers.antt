@@ -7,4 +7,4 @@ use Rattle.word_runs.proofs.words_of.Goals as goal
 pub returns : goal.returns
 returns c =
     let a = c.args in
-    c.ended_by.ensures ∙ ap (all_ended a.f.now) c.cell_place.ensures ∙ cell_ended (order_by a.msf) a.f.now a.s a.c
+    c.ended_by.ensures ∙ ap (all_ended a.f.now) c.cell_place.ensures ∙ cell_ended (λ r. r) (order_by a.msf) a.f.now a.s a.c
