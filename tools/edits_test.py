@@ -244,6 +244,10 @@ class Judged(unittest.TestCase):
         with unittest.mock.patch.dict(os.environ, {"DTA_EDITS": "/dev/null/kept"}):
             edits.keep("ab", MORE_FAILS)
 
+    def test_a_method_of_a_type_without_a_capital(self):
+        source = "impl Told for u8 {\n    fn own(self) -> u8 {\n        self\n    }\n}\n"
+        self.assertEqual(edits.name_of(source, edits.function_at(source, source.index("        self"))), "U8Told/own")
+
     def test_the_crates_below(self):
         edits.write(os.path.join(self.folder.name, "crates.txt"), "# NAME: uses\na:\nb: a io\nc staticlib: b\nd: a\n")
         self.assertEqual(edits.below(self.folder.name), {"a": set(), "b": {"a"}, "c": {"a", "b"}, "d": {"a"}})
