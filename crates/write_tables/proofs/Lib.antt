@@ -1,3 +1,4 @@
 pub mod Lay
 pub mod MarkLaws
 pub mod TableLaws
+pub mod FrontLaws
