@@ -79,18 +79,27 @@ module _ (t u : List ℕ) (n : ℕ) (U : u ≡ replicate n 0 ++ drop n t) (h : n
       let e : n + (k - n) ≡ k = omega arith in
       ap (λ (x : List ℕ). get_or x k 0) U ∙ get_or-append_right (replicate n 0) (drop n t) n k 0 (length-replicate n 0) b ∙ get_or-drop n t (k - n) 0 ∙ ap (λ (x : ℕ). get_or t x 0) e
 
+-- where it is refused, any list is right
 pub listed_none : (f : List ℕ) (l : Layout) (t : List ℕ) → length t ≡ 32768 → (d : Refusal) → Err d ≡ column_by (answer_of f l (ask_column 1))
+    → (Offsets f l t (Err d)) × (Kept (least 32768 l.variables) t t)
+listed_none f l t T d D = (
+  record {
+    long = T;
+    first = D;
+    each = λ i a b h.
+        let k = refused_as f l 1 i (in_among 1 l.variables (omega arith) (omega (arith, a, b))) (in_among i l.variables a b) d D in
+        subst (λ (r : Result Column Refusal). IfOk r (λ c. get_or t (i - 1) 0 ≡ c.offset)) k tt;
+  },
+  λ k h. refl,
+)
+
+-- .. and zeros are
+pub listed_cleared : (f : List ℕ) (l : Layout) (t : List ℕ) → length t ≡ 32768 → (d : Refusal) → Err d ≡ column_by (answer_of f l (ask_column 1))
     → (n : ℕ) → n ≡ least 32768 l.variables → (u : List ℕ) → u ≡ replicate n 0 ++ drop n t
     → (Offsets f l u (Err d)) × (Kept (least 32768 l.variables) t u) × (Cleared (least 32768 l.variables) u (Err d))
-listed_none f l t T d D n N u U =
+listed_cleared f l t T d D n N u U =
     let h : n ≤ length t = omega (arith, N, T, least_both 32768 l.variables) in (
-      record {
-        long = cleared_long t u n U h ∙ T;
-        first = D;
-        each = λ i a b h.
-            let k = refused_as f l 1 i (in_among 1 l.variables (omega arith) (omega (arith, a, b))) (in_among i l.variables a b) d D in
-            subst (λ (r : Result Column Refusal). IfOk r (λ c. get_or u (i - 1) 0 ≡ c.offset)) k tt;
-      },
+      (listed_none f l u (cleared_long t u n U h ∙ T) d D).0,
       λ k b. cleared_past t u n U h k (omega (arith, b, N)),
       λ k b. cleared_in t u n U h k (omega (arith, b, N)),
     )

@@ -46,10 +46,14 @@ dated f l i = go (among i l.variables) refl (release_in l.release) refl (order_i
     go true h (got r) u none v = no 17 some (rw (h, u, v)) (rw (h, u, v))
     go true h (got r) u (got o) v = rw (h, u, v) (dated_text f (edition r).format_width (field_place (edition r).tagged l 5 n_formats (edition r).format_width i))
 
+-- answers that are refused with one number, which may be any
+pub date_alike : {a d : Answer} (c : ℕ) → a ≡ refused c → d ≡ refused c → (e : Refusal) → Err e ≡ part_by a → Err e ≡ mark_by d
+date_alike c x y e P = let h : e ≡ refusal_by c = cc (P ∙ ap part_by x) in ap Err h ∙ ap mark_by (sym y)
+
 -- the mark's answer, by that of the format
 module _ {f : List ℕ} {a d : Answer} where
   pub date_refused : (e : Refusal) → Err e ≡ part_by a → Dated f a d → Err e ≡ mark_by d
-  date_refused e P (no c z x y) = let h : e ≡ refusal_by c = cc (P ∙ ap part_by x) in ap Err h ∙ ap mark_by (sym y)
+  date_refused e P (no c z x y) = date_alike c x y e P
   date_refused e P (yes q m x i y) = absurd (false≢true (cc (P ∙ ap part_by x)))
 
   pub date_marked : (p : Part) → Ok p ≡ part_by a → Dated f a d → Ok (is_date (part_in {E = Refusal} f (Ok p))) ≡ mark_by d

@@ -1,12 +1,12 @@
 use native.Mathlib.Omega.{arith}
 use Rattle.checking.specs.Checks.{layout_by}
-use Rattle.column_list.proofs.ListLaws.{told_opens, listed_none, listed_start, listed_all, turn_inside, turn}
+use Rattle.column_list.proofs.ListLaws.{told_opens, listed_cleared, listed_start, listed_all, turn_inside, turn}
 use Rattle.column_list.proofs.list_offsets.Goals as goal
 
 pub returns-in-Err : goal.returns-in-Err
 returns-in-Err c =
     let a = c.args in
-    listed_none a.f.now (layout_by a.l) a.t.now c.requires _ c.in-Err.ensures c.least-n.result c.least-n.ensures _ c.put_zeros.ensures
+    listed_cleared a.f.now (layout_by a.l) a.t.now c.requires _ c.in-Err.ensures c.least-n.result c.least-n.ensures _ c.put_zeros.ensures
 
 pub returns-in_err-o : goal.returns-in_err-o
 returns-in_err-o c = absurd (told_opens c.args.f.now (layout_by c.args.l) 1 c.in-Ok.c c.in-Ok.ensures _ c.in_err-o.ensures)
